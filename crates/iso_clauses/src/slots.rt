@@ -23,12 +23,13 @@ pub struct Label {
 /// What is kept of a clause.
 #[derive(Drop)]
 pub struct Slot<C> {
-    /// What the engine keeps of it, as long as the database or a view can give it.
+    /// How many clauses had been removed before it was.
+    pub died: Option<usize>,
+    /// What the engine keeps of it, as long as the database or a view can give it. It begins in the cache line that each
+    /// look for a clause reads.
     pub value: Option<C>,
     /// Where it stands.
     pub label: Label,
-    /// How many clauses had been removed before it was.
-    pub died: Option<usize>,
 }
 
 /// Whether a view that was made after so many removals gives a clause that died then.

@@ -12,7 +12,10 @@ mod order;
 mod settings;
 mod types;
 
+pub use iso_lib_core::collecting::{Meeting, make_template, meet_group};
 pub use iso_lib_core::copies::unify_copy;
+pub use iso_lib_core::groups::{Group, groups};
+pub use iso_lib_core::strip::strip;
 pub use iso_lib_core::{Fault, Reply, errors, lists};
 pub use library::builtin;
 pub use settings::{Constant, Offer, Settled, settle};

@@ -4,3 +4,12 @@ pub mod ListLemmas
 pub mod MergeLemmas
 pub mod CheckLemmas
 pub mod PartLemmas
+pub mod StripLemmas
+pub mod VariantLemmas
+pub mod SignLemmas
+pub mod GroupLemmas
+pub mod ClassLemmas
+pub mod KeyLemmas
+pub mod PairedLemmas
+pub mod TogetherLemmas
+pub mod MeetLemmas

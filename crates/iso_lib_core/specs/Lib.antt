@@ -3,3 +3,7 @@ pub mod Lists
 pub mod Checks
 pub mod Merging
 pub mod Cells
+pub mod Stripping
+pub mod Variants
+pub mod Groupings
+pub mod Collecting

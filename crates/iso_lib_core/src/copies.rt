@@ -1,5 +1,5 @@
 //! Copies of terms, with new variables.
-ghost use Rattle.std.specs.Prelude.{◌≡◌, ◌+◌, ◌<◌, ◌^◌, IfOk, OnOk, Err, true, length};
+ghost use Rattle.std.specs.Prelude.{◌≡◌, ◌+◌, ◌<◌, ◌≤◌, ◌^◌, IfOk, OnOk, Err, true, length};
 ghost use Rattle.std.specs.List.{All};
 ghost use Rattle.iso_model.specs.Terms.Sizes.{size};
 ghost use Rattle.iso_model.specs.Terms.TermOf.{term_of};
@@ -12,7 +12,7 @@ ghost use Rattle.iso_store_core.specs.Presents.{Grows, Holds, Makes, MovesOn, me
 ghost use Rattle.iso_store_core.specs.Retaining.{CountsCells, Retains, Takes};
 ghost use Rattle.iso_store_core.specs.ArgumentWords.{AreArguments};
 ghost use Rattle.iso_lib_core.specs.Cells.{copy_cells, made_for};
-ghost use Rattle.iso_lib_core.specs.Replies.{IsReply, MeetsCopy};
+ghost use Rattle.iso_lib_core.specs.Replies.{IsReply, MeetsCopy, most_copied};
 
 use super::outcomes::{Fault, Reply, tested};
 use iso_model::{NoMemory, Numbering, Term};
@@ -51,6 +51,28 @@ fn copied<S: Store>(store: &mut S, term: &Term) -> Result<S::Word, StoreFault>
         }
         Term::Var(_) | Term::Compound(_, _) => store.build(term),
     }
+}
+
+/// The copy of the term, with new variables. The errors: the store is full, or memory was refused, as it is for a
+/// term of more than 536,870,912 variables.
+pub(crate) fn copied_few<S: Store>(
+    alloc: Global,
+    store: &mut S,
+    term: &Term,
+) -> Result<S::Word, StoreFault>
+    requires next { (S.present store.old).next < 2 ^ 63 }
+    requires fits { arities_fit (term_of term.now) ≡ true }
+    ensures made { IfOk result (λ w. Makes (S.present store.old) (S.present store.new) w (copy_from (term_of term.now) (S.present store.old).next)) }
+    ensures numbers { OnOk result (MovesOn (S.present store.old) (S.present store.new) (variable_count (term_of term.now))) }
+    ensures few { OnOk result (variable_count (term_of term.now) ≤ most_copied) }
+    ensures full { result ≡ Err StoreFault.Full → S.full store.new }
+    ensures cells { Takes S.Store store.old store.new (size (term_of term.now)) }
+    ensures rest { Retains S.Store store.old store.new }
+{
+    if count_variables(alloc, term)? > MOST_VARIABLES {
+        return Err(StoreFault::NoMemory);
+    }
+    copied(store, term)
 }
 
 /// Whether the term that the word stands for unifies with a copy of the other one, which has new variables; then

@@ -11,11 +11,15 @@ mod equated;
 pub mod lists;
 mod merging;
 mod unbound;
+mod variants;
 // the built-ins
 pub mod arguments;
+pub mod collecting;
 pub mod copies;
 pub mod functors;
+pub mod groups;
 pub mod sorting;
+pub mod strip;
 pub mod univ;
 pub mod variables;
 

@@ -7,7 +7,8 @@ use Rattle.iso_model.specs.Terms.UnifierLaws.{AllBelow, StaysBelow}
 use Rattle.iso_model.specs.Search.Bodies.{body_term}
 use Rattle.iso_model.specs.Search.Databases.{Clause, Procedures, Key}
 use Rattle.iso_model.specs.Search.Walker.{State, World, Member, Goal, CutTo, Fail, Leave, Raise, Meet, Gather, Left, AsIs, Again, Clauses, Catching, Gathering}
-use Rattle.iso_model.specs.Search.Walker.{Offered, Alternative, Answered, Wrote, Ending, NoMore, Budget, Uncaught, Halted, Outcome, Goes, Gives, Ends}
+use Rattle.iso_model.specs.Search.Walker.{Offered, Groups, Alternative, Answered, Wrote, Ending, NoMore, Budget}
+use Rattle.iso_model.specs.Search.Walker.{Uncaught, Halted, Outcome, Goes, Gives, Ends}
 use Rattle.iso_logic.specs.Provability.{Among, HasClause, Proves}
 use Rattle.iso_logic.specs.DefiniteClauses.{AreGoals, IsDefiniteClause}
 use Rattle.iso_logic.specs.Leaves.{images, Leaves, Branches}
@@ -76,8 +77,9 @@ TrialAt ps q n s ms (Clauses call cs) = Trial ps q n s call cs ms
 TrialAt ps q n s ms AsIs = ⊥
 TrialAt ps q n s ms Again = ⊥
 TrialAt ps q n s ms (Catching catcher recovery) = ⊥
-TrialAt ps q n s ms (Gathering result copies count) = ⊥
+TrialAt ps q n s ms (Gathering collecting copies count) = ⊥
 TrialAt ps q n s ms (Offered left rights) = ⊥
+TrialAt ps q n s ms (Groups by groups) = ⊥
 
 abbrev pub Entries : Procedures → Tree → List Alternative → Type 0
 Entries ps q [] = Unit {0}
@@ -116,8 +118,9 @@ LeavesAt ps q s ms (Clauses call cs) l = Branches ps call cs (images s (goals_in
 LeavesAt ps q s ms AsIs l = ⊥
 LeavesAt ps q s ms Again l = ⊥
 LeavesAt ps q s ms (Catching catcher recovery) l = ⊥
-LeavesAt ps q s ms (Gathering result copies count) l = ⊥
+LeavesAt ps q s ms (Gathering collecting copies count) l = ⊥
 LeavesAt ps q s ms (Offered left rights) l = ⊥
+LeavesAt ps q s ms (Groups by groups) l = ⊥
 
 -- two parts of a list, of which P and Q hold
 pub record Parts (P Q : List Tree → Type 0) (l : List Tree) : Type 0 where

@@ -15,7 +15,8 @@ use Rattle.iso_model.specs.Search.Bodies.{Body, Cut, Run, And, Or, If, Choose}
 use Rattle.iso_model.specs.Search.Databases.{Clause, Procedures, Key, key_of, clauses_at}
 use Rattle.iso_model.specs.Search.BuiltIns.{built_in}
 use Rattle.iso_model.specs.Search.Walker.{State, Member, Goal, CutTo, Fail, Leave, Raise, Meet, Gather, Left, AsIs, Again, Clauses, Catching, Gathering}
-use Rattle.iso_model.specs.Search.Walker.{Offered, Alternative, Answered, Wrote, NoMore, Budget, Uncaught, Halted, Outcome, Goes, Gives, Ends, charged, paid}
+use Rattle.iso_model.specs.Search.Walker.{Offered, Groups, Alternative, Answered, Wrote, NoMore, Budget, Uncaught}
+use Rattle.iso_model.specs.Search.Walker.{Halted, Outcome, Goes, Gives, Ends, charged, paid}
 use Rattle.iso_model.specs.Search.Walker.{entered, under, with_others, tried, tried_clause, fails, clause_size, retried, backtracked, called, unknown_called}
 use Rattle.iso_model.specs.Search.Walker.{selected, run_goal, run_value, thrown, step_goal, step_list, step, values}
 use Rattle.iso_logic.specs.Provability.{later, Proves, proves_both}
@@ -160,8 +161,9 @@ retried_steps ps q (Clauses call cs) s world asks entries trial = let t = tried_
 retried_steps ps q AsIs s world asks entries trial = absurd trial
 retried_steps ps q Again s world asks entries trial = absurd trial
 retried_steps ps q (Catching catcher recovery) s world asks entries trial = absurd trial
-retried_steps ps q (Gathering result copies count) s world asks entries trial = absurd trial
+retried_steps ps q (Gathering collecting copies count) s world asks entries trial = absurd trial
 retried_steps ps q (Offered left rights) s world asks entries trial = absurd trial
+retried_steps ps q (Groups by groups) s world asks entries trial = absurd trial
 
 backtracked_steps : (ps : Procedures) (q : Tree) (stack : List Alternative) (s : State) → s.world.database.procedures ≡ ps → s.query ≡ q → Entries ps q stack
     → Steps ps q (StackLeaves ps q stack) (backtracked stack s)

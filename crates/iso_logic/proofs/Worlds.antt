@@ -8,7 +8,8 @@ use Rattle.iso_model.specs.Search.Bodies.{Body, Cut, Run, And, Or, If, Choose}
 use Rattle.iso_model.specs.Search.Databases.{Clause, Procedures, Key, key_of, clauses_at}
 use Rattle.iso_model.specs.Search.BuiltIns.{built_in}
 use Rattle.iso_model.specs.Search.Walker.{State, World, Member, Goal, CutTo, Fail, Leave, Raise, Meet, Gather, Left, AsIs, Again, Clauses, Catching, Gathering, Ending, NoMore, Budget, Uncaught, Halted}
-use Rattle.iso_model.specs.Search.Walker.{Offered, Alternative, Answered, Wrote, Outcome, Goes, Gives, Ends, charged, paid, with_others, tried, retried}
+use Rattle.iso_model.specs.Search.Walker.{Offered, Groups, Alternative, Answered, Wrote, Outcome, Goes, Gives, Ends}
+use Rattle.iso_model.specs.Search.Walker.{charged, paid, with_others, tried, retried}
 use Rattle.iso_model.specs.Search.Walker.{backtracked, called, unknown_called, selected, run_goal, run_value, thrown, step_goal, step_list, step, started, asked}
 use Rattle.iso_model.specs.Search.Runs.{Trace, Then, Stops, goes, gives, ends}
 use Rattle.iso_model.specs.Search.Runs as runs
@@ -103,8 +104,9 @@ module _ (ps : Procedures) (q : Tree) where
   retried_keeps AsIs s trial = absurd trial
   retried_keeps Again s trial = absurd trial
   retried_keeps (Catching catcher recovery) s trial = absurd trial
-  retried_keeps (Gathering result copies count) s trial = absurd trial
+  retried_keeps (Gathering collecting copies count) s trial = absurd trial
   retried_keeps (Offered left rights) s trial = absurd trial
+  retried_keeps (Groups by groups) s trial = absurd trial
 
   backtracked_keeps : (stack : List Alternative) (s : State) → Entries ps q stack → Keeps s.world (backtracked stack s)
   backtracked_keeps [] s entries = (refl, tt)

@@ -5,6 +5,7 @@ pub mod WorkedRows
 pub mod WorkedAppend
 pub mod WorkedJoin
 pub mod WorkedControlRuns
+pub mod WorkedGroupRuns
 pub mod RunCounts
 pub mod WorkedSteps
 pub mod WorkedLoadRuns

@@ -6,6 +6,7 @@ pub mod Errors
 pub mod Worlds
 pub mod Settlements
 pub mod Replies
+pub mod Groups
 pub mod Arithmetic
 pub mod Library
 pub mod AtomTexts

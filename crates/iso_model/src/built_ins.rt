@@ -36,6 +36,12 @@ pub enum BuiltIn {
     /// `findall/3`: copies of the first argument, one for each solution of the second, in a list that is unified with
     /// the third (8.10.1).
     Findall,
+    /// `bagof/3`: the same for each group of solutions, those that bind the goal's free variables alike (8.10.2).
+    Bagof,
+    /// `setof/3`: the same, each list in the standard order and each element once (8.10.3).
+    Setof,
+    /// `^/2`: its second argument is run (that it is a goal of its own is own).
+    Exists,
     /// One that runs no goal (8.2, 8.3, 8.5 to 8.7).
     Library(Library),
     /// One that reads or changes the operators or the flags (8.14.3, 8.14.4, 8.17.1, 8.17.2).
@@ -54,7 +60,7 @@ pub enum BuiltIn {
 #[derive(Clone, Copy)]
 pub struct Row(pub &'static str, pub usize, pub BuiltIn);
 
-const ROWS: [Row; 79] = [
+const ROWS: [Row; 82] = [
     Row("true", 0, BuiltIn::True),
     Row("fail", 0, BuiltIn::Fail),
     Row("false", 0, BuiltIn::Fail),
@@ -74,6 +80,9 @@ const ROWS: [Row; 79] = [
     Row("once", 1, BuiltIn::Once),
     Row("\\+", 1, BuiltIn::Not),
     Row("findall", 3, BuiltIn::Findall),
+    Row("bagof", 3, BuiltIn::Bagof),
+    Row("setof", 3, BuiltIn::Setof),
+    Row("^", 2, BuiltIn::Exists),
     Row("=", 2, BuiltIn::Library(Library::Unify)),
     Row("\\=", 2, BuiltIn::Library(Library::Differ)),
     Row(
@@ -230,7 +239,7 @@ fn among(rows: &[Row], name: &str, arity: usize) -> Option<BuiltIn>
     match rows {
         [] => None,
         [first, others @ ..] => {
-            if first.0 == name && first.1 == arity {
+            if first.1 == arity && first.0 == name {
                 return Some(first.2);
             }
             among(others, name, arity)

@@ -21,6 +21,7 @@ pub mod pauses;
 pub mod terms;
 pub mod worked_arithmetic;
 pub mod worked_control;
+pub mod worked_groups;
 pub mod worked_loads;
 pub mod worked_runs;
 pub mod worked_terms;

@@ -16,14 +16,14 @@ use std::alloc::{AllocError, Global};
 /// A clause ready to be tried: one that was checked, with its terms written out for the store.
 #[derive(Drop)]
 pub struct Clause<C> {
+    /// What an engine runs.
+    pub own: C,
+    pub variables: usize,
     pub head: Pattern,
     /// The outermost part of the head's first argument, where it has any.
     pub first: Option<Part>,
     /// The term `Head :- Body`, as which the clause is shown.
     pub whole: Pattern,
-    pub variables: usize,
-    /// What an engine runs.
-    pub own: C,
 }
 
 /// The name and the number of arguments of a callable term.

@@ -48,14 +48,21 @@ module _ {S L W M K P C N B O : Type 0} (g : Ghosts S W M) (l : lists.Ghosts L S
     chain = chain;
   }
 
-  -- a body or a goal was placed, and nothing was bound
-  pub ahead_placed : (e : Search S L W M K P C N B O) (store : S) (more : L) (s : State) (place : P) (built : ℕ) → IsAhead g l e s place → RetainsAll g e.store store → standing.Keeps l e.lists more
+  -- nothing was bound
+  pub ahead_unbound : (e : Search S L W M K P C N B O) (store : S) (more : L) (s : State) (place : P) (built : ℕ) → IsAhead g l e s place
+      → KeepsMarks (g.stands e.store) (g.stands store) → KeepsTexts (g.names e.store) (g.names store) → standing.Keeps l e.lists more
       → FitsState g (g.present store) (l.pending more place) (record s { built = built })
       → l.list (g.present store) more (l.whole more) place s.list → IsUnbound (g.present e.store) (g.present store) → IsAhead g l (record e { store = store; lists = more }) (record s { built = built }) place
-  ahead_placed e store more s place built h retains grows fits chain unbound =
+  ahead_unbound e store more s place built h keeps texts grows fits chain unbound =
       let room = h.goes.room in
       let steps = h.steps in
       let same = unbound.next in
       let none : s.next + 0 ≡ s.next = omega arith in
       subst (λ (n : ℕ). IsAhead g l (record e { store = store; lists = more }) (record s { next = n; built = built }) place) none
-      (ahead_bound e store more s place 0 built s.subst h retains.marks (same_texts retains.names) grows fits chain unbound.words (unbound.substitution ∙ h.goes.subst) (omega (arith, same)) (omega (arith, room, steps)))
+      (ahead_bound e store more s place 0 built s.subst h keeps texts grows fits chain unbound.words (unbound.substitution ∙ h.goes.subst) (omega (arith, same)) (omega (arith, room, steps)))
+
+  -- a body or a goal was placed
+  pub ahead_placed : (e : Search S L W M K P C N B O) (store : S) (more : L) (s : State) (place : P) (built : ℕ) → IsAhead g l e s place → RetainsAll g e.store store → standing.Keeps l e.lists more
+      → FitsState g (g.present store) (l.pending more place) (record s { built = built })
+      → l.list (g.present store) more (l.whole more) place s.list → IsUnbound (g.present e.store) (g.present store) → IsAhead g l (record e { store = store; lists = more }) (record s { built = built }) place
+  ahead_placed e store more s place built h retains = ahead_unbound e store more s place built h retains.marks (same_texts retains.names)

@@ -6,7 +6,7 @@ use Rattle.iso_model.specs.Terms.Substitutions.{Subst, apply}
 use Rattle.iso_model.specs.Terms.Copies.{copy_from, renamed}
 use Rattle.iso_model.specs.Terms.Unification.{unifier_of}
 use Rattle.iso_model.specs.Search.Databases.{Clause}
-use Rattle.iso_model.specs.Search.BuiltIns.{Reply, Equates, EquatesCopy, Calls, CallsOnce, Refutes, Catches, Gathers}
+use Rattle.iso_model.specs.Search.BuiltIns.{Reply, Equates, EquatesCopy, Calls, CallsOnce, Refutes, Catches, Gathers, AsList, InGroups}
 use Rattle.iso_model.specs.Search.Settlements.{Settled, Offers, Offer, Reference}
 use Rattle.iso_model.specs.Search.Walker.{State, Member, Leave, Catching, Goes, clause_size, entered, equated, fails, is_there, meets, met, met_right, offered, pushed, replied, settled, taken, tried_clause, tried_right, under, with_copy, with_rights}
 use Rattle.iso_model.proofs.Search.RunLaws.CountLemmas.{offered_built}
@@ -66,7 +66,8 @@ pub replied_counts : (x : Reply) (rest : List Member) (s : State) → (reply_cel
 replied_counts (Calls b) rest s = inr (_, refl, refl, omega arith)
 replied_counts (CallsOnce b) rest s = inr (_, refl, refl, omega arith)
 replied_counts (Refutes b) rest s = inr (_, refl, refl, omega arith)
-replied_counts (Gathers template b result) rest s = inr (_, refl, refl, omega arith)
+replied_counts (Gathers template b (AsList result)) rest s = inr (_, refl, refl, omega arith)
+replied_counts (Gathers template b (InGroups by)) rest s = inr (_, refl, refl, omega arith)
 replied_counts (Equates made a b) rest s =
     let o = under s.subst (unifier_of a b) in
     let v = record s { built = s.built + made } in

@@ -7,6 +7,8 @@ pub mod CountedLemmas
 pub mod EndLemmas
 pub mod FailLemmas
 pub mod FindLemmas
+pub mod GroupReplies
+pub mod GroupSteps
 pub mod LimitLemmas
 pub mod MeetLemmas
 pub mod MovedLemmas

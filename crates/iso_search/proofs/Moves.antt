@@ -1,3 +1,4 @@
+pub mod Asked
 pub mod Body
 pub mod Call
 pub mod Catch
@@ -5,7 +6,10 @@ pub mod Caught
 pub mod Engine
 pub mod Fault
 pub mod Gather
+pub mod Grouped
+pub mod Groups
 pub mod Local
+pub mod Meeting
 pub mod Member
 pub mod Next
 pub mod Offer

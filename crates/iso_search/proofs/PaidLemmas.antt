@@ -4,7 +4,7 @@ use Rattle.iso_search_core.specs.declared.lists.Lists as lists
 use Rattle.iso_search_core.specs.Bodies.{body_cost, left_cost, most, whole_cost}
 use Rattle.iso_search.specs.EngineStates.{cost, weight}
 use Rattle.iso_search.specs.declared.search.Search.{Search}
-use Rattle.iso_search_core.proofs.BodyCosts.{cost_above, cost_more, left_higher, left_step, called_cost, some_most, whole_paid}
+use Rattle.iso_search_core.proofs.BodyCosts.{cost_above, cost_more, left_higher, left_more, left_step, called_cost, some_most, whole_paid}
 
 -- twice as much behind a body is at most twice as much in all
 pub cost_double : (k x : ℕ) → body_cost k (x + x) ≤ body_cost k x + body_cost k x
@@ -53,9 +53,19 @@ pays_found c r w less =
     let fewer = cost_more most (1 + r) (2 + r) (omega arith) in
     omega (arith, h, fewer)
 
+-- groups that are left, and a body before one member more
+pub pays_groups : (c r w : ℕ) → c + r + 1 ≤ w → Pays w (c + left_cost most r + body_cost most (1 + r))
+pays_groups c r w less =
+    let h = called_cost most most c (1 + r) w (omega arith) (omega arith) (omega (arith, less)) in
+    let fewer = left_more most r (1 + r) (omega arith) in
+    omega (arith, h, fewer)
+
 -- the same of numbers that are equal to these
 pub pays_found_as : (c r k q w : ℕ) → k ≡ c + suc r → q ≡ r → c + r + 1 ≤ w → Pays w (k + body_cost most (1 + q))
 pays_found_as c r k q w all same less = rw (all, same) (pays_found c r w less)
+
+pub pays_groups_as : (c r k q w : ℕ) → k ≡ c + left_cost most r → q ≡ r → c + r + 1 ≤ w → Pays w (k + body_cost most (1 + q))
+pays_groups_as c r k q w all same less = rw (all, same) (pays_groups c r w less)
 
 pub pays_choice_as : (c r k q w : ℕ) → k ≡ c + suc r → q ≡ r → c + r + 1 ≤ w → Pays w (k + body_cost most (2 + q))
 pays_choice_as c r k q w all same less = rw (all, same) (pays_choice c r w less)

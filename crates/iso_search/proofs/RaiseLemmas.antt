@@ -32,6 +32,8 @@ module _ {S L W M K P C N B O : Type 0} (g : Ghosts S W M) (l : lists.Ghosts L S
       by_left left.AsIs has = absurd (let other = sym has ∙ catches in cc)
       by_left left.Again has = absurd (let other = sym has ∙ catches in cc)
       by_left (left.Gathering result gathered) has = absurd (let other = sym has.is ∙ catches in cc)
+      by_left (left.Grouping by pairs) has = absurd (let other = sym has.is ∙ catches in cc)
+      by_left (left.Groups by groups) has = absurd (let other = sym has.is ∙ catches in cc)
       by_left (left.Offered goal offers) has = absurd (let other = sym has.is ∙ catches in cc)
       by_left (left.Shown shown) has = absurd (let other = sym has.is ∙ catches in cc)
       by_left (left.Clauses attempt) has = absurd (let other = sym has.left ∙ catches in cc)

@@ -9,7 +9,7 @@ use Rattle.iso_store_core.specs.declared.stores.Store.{Ghosts}
 use Rattle.iso_search_core.specs.GoalKinds.{IsBuiltIn}
 use Rattle.iso_search.specs.Nexts.{IsGoalFirst}
 use Rattle.iso_lib_core.specs.Replies.{IsDone, IsFailed, IsRaised, IsUnbound, UnifiesCopy}
-use Rattle.iso_model.specs.Search.Replies.{Answer, Fail, Succeed, Equate, EquateCopy, Raise}
+use Rattle.iso_model.specs.Search.Replies.{Answer, Fail, Succeed, Equate, EquateCopy, Raise, Grouping, AsList, InGroups}
 use Rattle.iso_model.specs.declared.pauses.Ball.{Ball}
 use Rattle.iso_atoms.specs.Texts.{KeepsTexts}
 use Rattle.iso_model.specs.Search.Walker.{Member, State}
@@ -78,7 +78,8 @@ module _ {S L W M K P C N B O : Type 0} (l : lists.Ghosts L S K P C N B O W M) (
   Told x replied.Repeats = (x ≡ Repeats) × (q ≡ p)
   Told x replied.Catches = (b : Body) × (catcher : Tree) × (recovery : Tree) × (x ≡ Catches (Calls b) catcher recovery) × (q ≡ p)
   Told x (replied.RaisesInside ball) = (catcher : Tree) × (recovery : Tree) × (x ≡ Catches (Raises (term_of ball.term.value)) catcher recovery) × (arities_fit (term_of ball.term.value) ≡ true) × IsUnbound p q
-  Told x replied.Gathers = (template : Tree) × (b : Body) × (result : Tree) × (x ≡ Gathers template b result) × (q ≡ p)
+  Told x replied.Gathers = (template : Tree) × (b : Body) × (result : Tree) × (x ≡ Gathers template b (AsList result)) × (q ≡ p)
+  Told x (replied.Groups sorts) = (template : Tree) × (b : Body) × (by : Grouping) × (x ≡ Gathers template b (InGroups by)) × (q ≡ p) × (by.sorts ≡ sorts)
   Told x (replied.Halts status) = x ≡ Halts status
   Told x answer = q ≡ p
 
@@ -97,7 +98,8 @@ module _ {S L W M K P C N B O : Type 0} (l : lists.Ghosts L S K P C N B O W M) (
   told (Catches (Calls b) catcher recovery) replied.Catches h = (b, catcher, recovery, refl, h.0)
   told (Catches (Raises error) catcher recovery) (replied.RaisesInside ball) h = (catcher, recovery, ap (λ (y : Tree). Catches (Raises y) catcher recovery) (sym h.is), h.fits, h.unbound)
   told (Halts n) (replied.Halts status) h = ap Halts (sym h)
-  told (Gathers template b result) replied.Gathers h = (template, b, result, refl, h.0)
+  told (Gathers template b (AsList result)) replied.Gathers h = (template, b, result, refl, h.0)
+  told (Gathers template b (InGroups by)) (replied.Groups sorts) h = (template, b, by, refl, h.0, h.2)
   told (AsksWorld settles) (replied.AsksSettings row) h = h.0
   told (AsksWorld settles) (replied.AsksDatabase row) h = h.0
   told (AsksWorld settles) (replied.TakesApart row) h = h.0

@@ -3,8 +3,9 @@ use Rattle.std.proofs.Common.{◌≡◌, ℕ, List, [], ◌∷◌, refl, sym, �
 use Rattle.iso_model.specs.Terms.Substitutions.{apply}
 use Rattle.iso_model.specs.Search.Walker.{AsIs, Catching, Fail, Gather, Gathering, Goal, Member, pushed, State}
 use Rattle.iso_model.specs.Search.Bodies.{Body, map_body}
+use Rattle.iso_model.specs.Search.Replies.{Collecting}
 use Rattle.iso_model.specs.Terms.Trees.{Tree}
-use Rattle.iso_model.specs.Search.RunLaws.Sameness.{flat, Around, Same, going, failing, same_alternative, same_gathering, IsValue}
+use Rattle.iso_model.specs.Search.RunLaws.Sameness.{flat, Around, Same, going, failing, same_alternative, same_gathering, IsValue, IsOwnCollecting}
 use Rattle.iso_model.proofs.Search.RunLaws.SameSteps.{put_alike, list_same}
 use Rattle.iso_model.proofs.Search.RunLaws.Likeness.{Alike}
 use Rattle.iso_search.proofs.Moves.Search.{own_same}
@@ -51,9 +52,12 @@ same_inside s b c catcher recovery mark built rest ms same one other at =
     (put_alike s.subst s.subst (flat ms) (flat ms) b c mark same (list_same ms))
 
 -- so for all of its solutions, with templates of the same value
-pub same_finding : (s : State) (b c : Body) (t template result : Tree) (mark height built : ℕ) (rest : List Member) → map_body s.subst b ≡ map_body s.subst c → apply s.subst t ≡ apply s.subst template → IsValue s.subst result → Around s s
-    → Same (record (pushed rest (Gathering result [] 0) s) { list = Goal b mark ∷ Gather height t ∷ rest; built = built }) (record (pushed rest (Gathering result [] 0) s) { list = Goal c mark ∷ Gather height template ∷ rest; built = built })
-same_finding s b c t template result mark height built rest same value own at =
+pub same_finding : (s : State) (b c : Body) (t template : Tree) (collecting : Collecting) (mark height built : ℕ) (rest : List Member)
+    → map_body s.subst b ≡ map_body s.subst c → apply s.subst t ≡ apply s.subst template
+    → IsOwnCollecting s.subst collecting → Around s s
+    → Same (record (pushed rest (Gathering collecting [] 0) s) { list = Goal b mark ∷ Gather height t ∷ rest; built = built })
+    (record (pushed rest (Gathering collecting [] 0) s) { list = Goal c mark ∷ Gather height template ∷ rest; built = built })
+same_finding s b c t template collecting mark height built rest same value own at =
     going
     (record {
       agree = at.agree;

@@ -1,6 +1,7 @@
 -- A thrown ball finds the catch that it goes to.
 use Rattle.iso_program.specs.ClauseOffers.{clause_offer}
-use Rattle.iso_search_core.specs.Solutions.{copies_of}
+use Rattle.iso_model.specs.Search.Replies.{AsList, InGroups}
+use Rattle.iso_search_core.specs.Solutions.{copies_of, pairs_of}
 use Rattle.iso_search_core.specs.Offers.{goal_arguments, rights_of}
 use Rattle.iso_program.specs.Leaving.{Leaving}
 use Rattle.iso_store_core.specs.Presents.{meaning, Present}
@@ -10,12 +11,12 @@ use Rattle.std.specs.List.{slice_get}
 use Rattle.std.proofs.Math.Nat.{eq-or-lt_of_le}
 use Rattle.std.proofs.lemmas.Bool.{eqb-true, cases_Bool, eq-eqb}
 use Rattle.std.proofs.lemmas.Option.{slice_get_within}
-use Rattle.iso_model.specs.Search.Walker.{State, Alternative, Left, AsIs, Again, Clauses, Catching, Gathering, Offered, Outcome, caught_at, caught, shortened}
+use Rattle.iso_model.specs.Search.Walker.{State, Alternative, Left, AsIs, Again, Clauses, Catching, Gathering, Offered, Groups, Outcome, caught_at, caught, shortened}
 use Rattle.iso_search_core.specs.declared.lists.Lists as lists
 use Rattle.iso_search_core.specs.declared.choices.Left as engine
 use Rattle.iso_search_core.specs.declared.choices.Left.TheVariants as left
 use Rattle.iso_search_core.specs.declared.choices.Choice as kept
-use Rattle.iso_search_core.specs.Standing.{HasLeft, StandsForChoice, StandsForChoices, one_kept, none_kept}
+use Rattle.iso_search_core.specs.Standing.{grouping_of, groups_in, HasLeft, StandsForChoice, StandsForChoices, one_kept, none_kept}
 use Rattle.iso_search.specs.Catches.{IsEntry, IsCatchAt}
 use Rattle.iso_search_core.proofs.StandingLemmas.{choices_length, length_last, at_front, last_is, some_same}
 
@@ -121,7 +122,10 @@ module _ {S L W M K P C N B O : Type 0} {l : lists.Ghosts L S K P C N B O W M} {
     by_left (left.Catching goal) e has = absurd (e tt)
     by_left left.AsIs e has = passes AsIs has refl
     by_left left.Again e has = passes Again has refl
-    by_left (left.Gathering result gathered) e has = passes (Gathering (meaning at.present result) (copies_of gathered) gathered.variables) has.is refl
+    by_left (left.Grouping by pairs) e has =
+        passes (Gathering (InGroups (grouping_of at.present by)) (pairs_of pairs) pairs.variables) has.is refl
+    by_left (left.Groups by groups) e has = passes (Groups (grouping_of at.present by) (groups_in groups.items)) has.is refl
+    by_left (left.Gathering result gathered) e has = passes (Gathering (AsList (meaning at.present result)) (copies_of gathered) gathered.variables) has.is refl
     by_left (left.Offered goal offers) e has = passes (Offered (goal_arguments (meaning at.present goal)) (rights_of has.made (meaning at.present goal) offers)) has.is refl
     by_left (left.Shown shown) e has = passes (Offered (row (meaning at.present shown.head ∷ meaning at.present shown.body ∷ [])) (map (clause_offer shown.removes has.key) has.clauses)) has.is refl
     by_left (left.Clauses attempt) e has = passes (Clauses has.call has.clauses) has.left refl

@@ -6,6 +6,7 @@ use Rattle.iso_model.specs.Terms.Substitutions.{apply}
 use Rattle.iso_model.specs.Terms.Sizes.{size}
 use Rattle.iso_model.specs.Terms.Lists.{list_of}
 use Rattle.iso_model.specs.Search.Bodies.{Body, body_term, map_body}
+use Rattle.iso_model.specs.Search.Replies.{AsList}
 use Rattle.iso_model.specs.Search.Walker.{State, Goal, Gather, Gathering, pushed, equated_copy}
 use Rattle.iso_store_core.specs.Presents.{Present, meaning}
 use Rattle.iso_store_core.specs.declared.stores.Store.{Ghosts}
@@ -29,7 +30,7 @@ result_of p goal = argument 2 (meaning p goal)
 -- this body is run for all of its solutions, before the list
 abbrev pub finding : Body → Tree → Tree → State → State
 finding b template result s =
-    record (pushed s.list (Gathering result [] 0) s) { list = Goal b (suc (length s.stack)) ∷ Gather (length s.stack) template ∷ s.list }
+    record (pushed s.list (Gathering (AsList result) [] 0) s) { list = Goal b (suc (length s.stack)) ∷ Gather (length s.stack) template ∷ s.list }
 
 -- the result is unified with the list of these copies
 abbrev pub found : Tree → List Tree → State → State

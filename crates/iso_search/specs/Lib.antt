@@ -3,6 +3,7 @@ pub mod Catches
 pub mod EngineStates
 pub mod Faults
 pub mod Gathers
+pub mod Groups
 pub mod Limits
 pub mod Members
 pub mod Moved

@@ -67,6 +67,14 @@ impl<S: Store + Drop, L: Calls<S>> Search<S, L> {
                 self.end_gathering(newest, solutions)?;
                 Ok(Move::Goes)
             }
+            Left::Grouping(_, _) => {
+                self.try_groups(newest)?;
+                Ok(Move::Goes)
+            }
+            Left::Groups(_, _) => {
+                self.try_groups(newest)?;
+                Ok(Move::Goes)
+            }
             Left::Offered(goal, _) => {
                 self.try_next(newest, goal)?;
                 Ok(Move::Goes)

@@ -3,6 +3,7 @@ ghost use Rattle.std.specs.Prelude.{◌≡◌, ◌+◌, ◌<◌, ◌≤◌, true
 ghost use Rattle.iso_model.specs.Terms.Lists.{list_of};
 ghost use Rattle.iso_model.specs.Terms.Sizes.{size};
 ghost use Rattle.iso_model.specs.Search.Bodies.{Body, converted};
+ghost use Rattle.iso_model.specs.Search.Replies.{AsList};
 ghost use Rattle.iso_model.specs.Search.Walker.{State, Alternative, Gathering, pushed};
 ghost use Rattle.iso_search_core.specs.declared.choices.Choice as kept;
 ghost use Rattle.iso_search_core.specs.declared.solutions.Gathered.{Gathered};
@@ -44,7 +45,7 @@ impl<S: Store + Drop, L: Lists<S>> Search<S, L> {
             (result_of (S.present self.old.store) goal) b s) }
         ensures kept { (s : State) → EntersFindall S.Store L.Lists self.old goal s rest
             → OnErr result (WasRefused S.Store L.Lists self.new s
-            (record (pushed s.list (Gathering (result_of (S.present self.old.store) goal) [] 0) s) {
+            (record (pushed s.list (Gathering (AsList (result_of (S.present self.old.store) goal)) [] 0) s) {
               built = s.built + conversion_cells (solved_of (S.present self.old.store) goal);
             })) }
         ensures falls { FallsFrom L.Lists self.old (cost_from L.Lists self.old rest + 1) result self.new }

@@ -12,6 +12,7 @@ mod ends;
 mod engine;
 mod fails;
 mod gathers;
+mod groups;
 mod locals;
 pub mod members;
 mod offers;

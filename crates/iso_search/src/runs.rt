@@ -125,6 +125,7 @@ impl<S: Store + Drop, L: Lists<S>> Search<S, L> {
             Replied::Catches => self.call_inside(goal, rest),
             Replied::RaisesInside(ball) => self.throw_inside(ball, goal, rest),
             Replied::Gathers => self.find_all(goal, rest),
+            Replied::Groups(sorts) => self.find_groups(goal, sorts, rest),
             Replied::AsksSettings(row) => self.setting_goal(row, goal, rest),
             Replied::AsksDatabase(row) => self.database_goal(row, goal, rest),
             Replied::TakesApart(row) => self.part_goal(row, goal, rest),

@@ -7,7 +7,7 @@ use Rattle.iso_model.specs.Search.Databases.{Key, same_key}
 use Rattle.iso_model.specs.Terms.Arguments.{arity}
 use Rattle.iso_model.specs.Search.BuiltIns.{built_ins, built_in_among}
 use Rattle.iso_model.specs.declared.built_ins.BuiltIn.{BuiltIn}
-use Rattle.iso_model.specs.declared.built_ins.BuiltIn.TheVariants.{Call, Once, Not, Catch, Throw, HaltWith, Findall, Library, Setting, Storage, Text, Output, AtomPart}
+use Rattle.iso_model.specs.declared.built_ins.BuiltIn.TheVariants.{Call, Once, Not, Catch, Throw, HaltWith, Findall, Bagof, Setof, Exists, Library, Setting, Storage, Text, Output, AtomPart}
 use Rattle.iso_model.specs.Search.Library.{library_arity}
 use Rattle.iso_model.specs.Search.Settings.{setting_arity}
 use Rattle.iso_model.specs.Search.Storages.{storage_arity}
@@ -39,6 +39,9 @@ has_arity Throw n = exactly n 1
 has_arity HaltWith n = exactly n 1
 has_arity Catch n = exactly n 3
 has_arity Findall n = exactly n 3
+has_arity Bagof n = exactly n 3
+has_arity Setof n = exactly n 3
+has_arity Exists n = exactly n 2
 has_arity (Library row) n = exactly n (library_arity row)
 has_arity (Setting row) n = exactly n (setting_arity row)
 has_arity (Storage row) n = exactly n (storage_arity row)

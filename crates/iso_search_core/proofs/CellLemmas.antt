@@ -129,6 +129,9 @@ once_counts t = goal_counts CallsOnce (λ b. refl) (argument 0 t) (key (codes "o
 pub not_counts : (t : Tree) → reply_cells (reply built_in.Not t) ≡ goal_cells (argument 0 t)
 not_counts t = goal_counts Refutes (λ b. refl) (argument 0 t) (key (codes "\\+") 1)
 
+pub exists_counts : (t : Tree) → reply_cells (reply built_in.Exists t) ≡ goal_cells (argument 1 t)
+exists_counts t = goal_counts Calls (λ b. refl) (argument 1 t) (key (codes "^") 2)
+
 pub answer_counts : (x : Answer) → reply_cells (answered x) ≡ made_for x
 answer_counts Fail = refl
 answer_counts x = refl

@@ -2,7 +2,7 @@
 use Rattle.std.proofs.Common.{◌≡◌, ℕ, List, true, sym, ap, ◌∙◌, arith, Some}
 use Rattle.iso_model.specs.Terms.Trees.{Tree, Apply, End, More, count}
 use Rattle.iso_model.specs.Terms.Sorts.{is_term}
-use Rattle.iso_model.specs.Terms.Arguments.{member, argument, arguments}
+use Rattle.iso_model.specs.Terms.Arguments.{member, argument}
 use Rattle.iso_model.specs.Search.Bodies.{two}
 use Rattle.iso_store_core.specs.Arguments.{members_from}
 use Rattle.iso_prep.specs.declared.connectives.Connective.{Connective}

@@ -6,34 +6,42 @@ use Rattle.iso_model.specs.Terms.Trees.{Tree, Name, arities_fit}
 use Rattle.iso_model.specs.Terms.Lists.{nil, list_of}
 use Rattle.iso_model.specs.Search.Databases.{Clause}
 use Rattle.iso_model.specs.Search.Settlements.{Offer}
-use Rattle.iso_model.specs.Search.Walker.{Alternative, AsIs, Again, Clauses, Catching, Gathering, Offered, gathered, gathered_at}
+use Rattle.iso_model.specs.Search.Walker.{Alternative, AsIs, Again, Clauses, Catching, Gathering, Offered, Groups, gathered, gathered_at}
 use Rattle.iso_model.specs.Search.Walker as walker
+use Rattle.iso_model.specs.Search.Replies.{Grouping, AsList, InGroups}
+use Rattle.iso_model.specs.Search.Groups.{is_solution}
+use Rattle.iso_model.specs.Terms.Variables.{variable_count}
 use Rattle.iso_store_core.specs.Presents.{Present, meaning}
 use Rattle.iso_program.specs.Leaving.{Leaving}
-use Rattle.iso_search_core.specs.Solutions.{copies_of, Gains}
+use Rattle.iso_search_core.specs.Solutions.{copies_of, pairs_of, Change, Gains}
 use Rattle.iso_search_core.specs.Gathering.{SameCopies, LeftChanges, ChoiceChanges, ChangesAt, no_choice, this_choice, later_choice}
 use Rattle.iso_search_core.specs.declared.solutions.Gathered.{Gathered}
+use Rattle.iso_search_core.specs.declared.pairs.Pairs.{Pairs}
+use Rattle.iso_lib_core.specs.declared.collecting.Meeting.{Meeting}
 use Rattle.iso_search_core.specs.declared.choices.Left.{Left}
 use Rattle.iso_search_core.specs.declared.choices.Left.TheVariants as left
 use Rattle.iso_search_core.specs.declared.choices.Choice as kept
 use Rattle.iso_search_core.specs.Costs.{tried_cost, choices_cost}
 use Rattle.iso_search_core.specs.declared.lists.Lists.{Ghosts}
-use Rattle.iso_search_core.specs.Standing.{Among, IsBelow, HasLeft, StandsForChoice, StandsForChoices, none_kept, one_kept, HaveRoom, entered_at, numbers_a_step, most_numbers}
+use Rattle.iso_search_core.specs.Standing.{grouping_of, Among, IsBelow, HasLeft, StandsForChoice, StandsForChoices, none_kept, one_kept, HaveRoom, entered_at, numbers_a_step, most_numbers}
 use Rattle.iso_search_core.proofs.SolutionLemmas.{copy_fits, list_fits}
 use Rattle.iso_search_core.proofs.StandingLemmas.{choices_length}
 
 -- ---- the choice at a place
 
 -- nothing is gathered there
-pub not_gathering : {W C : Type 0} (R : Gathered → Gathered → Type 0) (l : Left W C) → ((result : W) (g : Gathered) → l ≡ left.Gathering result g → ⊥) → LeftChanges R l l
-not_gathering R (left.Gathering result g) none = absurd (none result g refl)
-not_gathering R l none = refl
+pub not_gathering : {W C : Type 0} (R : Change) (l : Left W C) → ((result : W) (g : Gathered) → l ≡ left.Gathering result g → ⊥)
+    → ((by : Meeting W) (g : Pairs) → l ≡ left.Grouping by g → ⊥) → LeftChanges R l l
+not_gathering R (left.Gathering result g) none other = absurd (none result g refl)
+not_gathering R (left.Grouping by g) none other = absurd (other by g refl)
+not_gathering R l none other = refl
 
-left_costs : {W C : Type 0} (R : Gathered → Gathered → Type 0) (n : ℕ) (l m : Left W C) → LeftChanges R l m → tried_cost m n ≡ tried_cost l n
+left_costs : {W C : Type 0} (R : Change) (n : ℕ) (l m : Left W C) → LeftChanges R l m → tried_cost m n ≡ tried_cost l n
 left_costs {W = W} {C = C} R n (left.Gathering result g) m h = ap (λ (x : Left W C). tried_cost x n) h.1
+left_costs {W = W} {C = C} R n (left.Grouping by g) m h = ap (λ (x : Left W C). tried_cost x n) h.1
 left_costs {W = W} {C = C} R n l m h = ap (λ (x : Left W C). tried_cost x n) h
 
-module _ {W M K P C : Type 0} (R : Gathered → Gathered → Type 0) where
+module _ {W M K P C : Type 0} (R : Change) where
   pub changes_none : (n : ℕ) (cs : List (kept.Choice W M K P C)) → length cs ≤ n → ChangesAt R n cs cs
   changes_none n [] less = no_choice
   changes_none zero (c ∷ cs) less = absurd (omega (arith, less))
@@ -46,7 +54,7 @@ module _ {W M K P C : Type 0} (R : Gathered → Gathered → Type 0) where
 
 -- ---- what changes at the choice at a place
 
-module _ {W M K P C : Type 0} (R : Gathered → Gathered → Type 0) where
+module _ {W M K P C : Type 0} (R : Change) where
   -- The last of the choices changes, or one before it.
   abbrev AtEnd : ℕ → List (kept.Choice W M K P C) → kept.Choice W M K P C → List (kept.Choice W M K P C) → Type 0
   AtEnd n before c ds =
@@ -103,21 +111,41 @@ unchanged n [] = refl
 unchanged n (a ∷ below) = ap₂ (λ (x : Alternative) (xs : List Alternative). x ∷ xs) (same_alternative (length below == n) a) (unchanged n below)
 
 -- How what was gathered, and what is left at the alternative, change together.
-pub record Together (f : walker.Left → walker.Left) (R : Gathered → Gathered → Type 0) : Type 0 where
+pub record Together (f : walker.Left → walker.Left) (R : Change) : Type 0 where
   pub as_is : f AsIs ≡ AsIs
   pub again : f Again ≡ Again
   pub clauses : (call : Tree) (cs : List Clause) → f (Clauses call cs) ≡ Clauses call cs
   pub catching : (catcher recovery : Tree) → f (Catching catcher recovery) ≡ Catching catcher recovery
   pub offered : (left : Tree) (rights : List Offer) → f (Offered left rights) ≡ Offered left rights
-  pub gathering : (result : Tree) (g h : Gathered) → R g h → f (Gathering result (copies_of g) g.variables) ≡ Gathering result (copies_of h) h.variables
-  pub fits : (g h : Gathered) → R g h → arities_fit (list_of (copies_of g)) ≡ true → arities_fit (list_of (copies_of h)) ≡ true
+  pub groups : (by : Grouping) (gs : List (List Tree)) → f (Groups by gs) ≡ Groups by gs
+  pub gathering : (result : Tree) (g h : Gathered) → R.copies g h → f (Gathering (AsList result) (copies_of g) g.variables) ≡ Gathering (AsList result) (copies_of h) h.variables
+  pub grouping : (by : Grouping) (g h : Pairs) → R.pairs g h
+      → f (Gathering (InGroups by) (pairs_of g) g.variables) ≡ Gathering (InGroups by) (pairs_of h) h.variables
+  pub pairs_fit : (g h : Pairs) → R.pairs g h → arities_fit (list_of (pairs_of g)) ≡ true
+      → arities_fit (list_of (pairs_of h)) ≡ true
+  pub fits : (g h : Gathered) → R.copies g h → arities_fit (list_of (copies_of g)) ≡ true → arities_fit (list_of (copies_of h)) ≡ true
   pub entered : (l : walker.Left) → entered_at (f l) ≡ entered_at l
 
-module _ (f : walker.Left → walker.Left) (R : Gathered → Gathered → Type 0) (k : Together f R) where
+module _ (f : walker.Left → walker.Left) (R : Change) (k : Together f R) where
   left_changed : {W C : Type 0} (leaves : Leaving) (calls : C → Tree → Type 0) (p : Present W) (a : Alternative) (x y : Left W C) → LeftChanges R x y → HasLeft leaves calls p x a → HasLeft leaves calls p y (record a { left = f a.left })
   left_changed {W = W} {C = C} leaves calls p a (left.Gathering result g) y h has =
       subst (λ (z : Left W C). HasLeft leaves calls p z (record a { left = f a.left })) (sym h.1)
       (record { holds = has.holds; is = ap f has.is ∙ k.gathering (meaning p result) g h.0 h.2; fits = k.fits g h.0 h.2 has.fits })
+  left_changed {W = W} {C = C} leaves calls p a (left.Grouping by g) y h has =
+      subst (λ (z : Left W C). HasLeft leaves calls p z (record a { left = f a.left })) (sym h.1) (record {
+        witness = has.witness;
+        result = has.result;
+        is = ap f has.is ∙ k.grouping (grouping_of p by) g h.0 h.2;
+        fits = k.pairs_fit g h.0 h.2 has.fits;
+      })
+  left_changed {W = W} {C = C} leaves calls p a (left.Groups by groups) y h has =
+      subst (λ (z : Left W C). HasLeft leaves calls p z (record a { left = f a.left })) (sym h) (record {
+        witness = has.witness;
+        result = has.result;
+        is = ap f has.is ∙ k.groups _ _;
+        each = has.each;
+        some = has.some;
+      })
   left_changed {W = W} {C = C} leaves calls p a left.AsIs y h has = subst (λ (z : Left W C). HasLeft leaves calls p z (record a { left = f a.left })) (sym h) (ap f has ∙ k.as_is)
   left_changed {W = W} {C = C} leaves calls p a left.Again y h has = subst (λ (z : Left W C). HasLeft leaves calls p z (record a { left = f a.left })) (sym h) (ap f has ∙ k.again)
   left_changed {W = W} {C = C} leaves calls p a (left.Catching goal) y h has =
@@ -201,7 +229,25 @@ module _ (f : walker.Left → walker.Left) (R : Gathered → Gathered → Type 0
 
 entered_gathered : (t : Tree) (l : walker.Left) → entered_at (gathered l t) ≡ entered_at l
 entered_gathered t AsIs = refl
+entered_gathered t (Gathering (AsList result) copies count) = refl
+entered_gathered t (Gathering (InGroups by) copies count) =
+    elim (is_solution t) as (λ b. entered_at (if b then Gathering (InGroups by) (copies ++ copy_from t count ∷ []) (count + variable_count t) else Gathering (InGroups by) copies count) ≡ 1) [
+      | true ↦ refl
+      | false ↦ refl
+    ]
 entered_gathered t l = refl
+
+-- a solution comes, or not
+either : (b : Bool) (by : Grouping) (more less : List Tree) (m n : ℕ)
+    → (if b then Gathering (InGroups by) more m else Gathering (InGroups by) less n)
+    ≡ Gathering (InGroups by) (if b then more else less) (if b then m else n)
+either true by more less m n = refl
+either false by more less m n = refl
+
+either_fits : (b : Bool) (more less : List Tree) → arities_fit (list_of more) ≡ true → arities_fit (list_of less) ≡ true
+    → arities_fit (list_of (if b then more else less)) ≡ true
+either_fits true more less one other = one
+either_fits false more less one other = other
 
 with_solution : (t : Tree) → arities_fit t ≡ true → Together (λ l. gathered l t) (Gains t)
 with_solution t fits = record {
@@ -210,7 +256,16 @@ with_solution t fits = record {
   clauses = λ call cs. refl;
   catching = λ catcher recovery. refl;
   offered = λ left rights. refl;
-  gathering = λ result g h r. ap₂ (Gathering result) (sym r.copies) (sym r.variables);
+  groups = λ by gs. refl;
+  gathering = λ result g h r. ap₂ (Gathering (AsList result)) (sym r.copies) (sym r.variables);
+  grouping = λ by g h r.
+      (either (is_solution t) by (pairs_of g ++ copy_from t g.variables ∷ []) (pairs_of g)
+      (g.variables + variable_count t) g.variables
+      ∙ ap₂ (Gathering (InGroups by)) (sym r.copies) (sym r.variables));
+  pairs_fit = λ g h r all.
+      (subst (λ (ts : List Tree). arities_fit (list_of ts) ≡ true) (sym r.copies)
+      (either_fits (is_solution t) (pairs_of g ++ copy_from t g.variables ∷ []) (pairs_of g)
+      (list_fits (pairs_of g) (copy_from t g.variables) (Name nil) all (copy_fits t g.variables fits)) all));
   fits = λ g h r all. subst (λ (ts : List Tree). arities_fit (list_of ts) ≡ true) (sym r.copies) (list_fits (copies_of g) (copy_from t g.variables) (Name nil) all (copy_fits t g.variables fits));
   entered = entered_gathered t;
 }
@@ -222,7 +277,10 @@ with_none = record {
   clauses = λ call cs. refl;
   catching = λ catcher recovery. refl;
   offered = λ left rights. refl;
-  gathering = λ result g h r. ap₂ (Gathering result) (sym r.0) (sym r.1);
+  groups = λ by gs. refl;
+  gathering = λ result g h r. ap₂ (Gathering (AsList result)) (sym r.0) (sym r.1);
+  grouping = λ by g h r. ap₂ (Gathering (InGroups by)) (sym r.0) (sym r.1);
+  pairs_fit = λ g h r all. subst (λ (ts : List Tree). arities_fit (list_of ts) ≡ true) (sym r.0) all;
   fits = λ g h r all. subst (λ (ts : List Tree). arities_fit (list_of ts) ≡ true) (sym r.0) all;
   entered = λ l. refl;
 }

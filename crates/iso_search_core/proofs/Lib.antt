@@ -1,4 +1,5 @@
 pub mod ArityLemmas
+pub mod AskingLemmas
 pub mod BodyCosts
 pub mod CallableWords
 pub mod CellLemmas
@@ -8,6 +9,7 @@ pub mod FittingLemmas
 pub mod GatheringLemmas
 pub mod GoalLemmas
 pub mod OfferLemmas
+pub mod PairTerms
 pub mod PartRows
 pub mod ReplyLemmas
 pub mod SolutionLemmas

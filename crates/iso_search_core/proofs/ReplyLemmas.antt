@@ -5,7 +5,8 @@ use Rattle.iso_model.specs.Terms.Trees.{Tree, Variable, Integer, Name, Apply, En
 use Rattle.iso_model.specs.Terms.TermOf.{term_of}
 use Rattle.iso_model.specs.Terms.Arguments.{argument, arity}
 use Rattle.iso_model.specs.Terms.Lists.{is_partial_list}
-use Rattle.iso_model.specs.Search.BuiltIns.{Reply, Raises, Calls, CallsOnce, Refutes, Catches, Gathers, Halts, Writes, converted_reply, goal_reply, called_reply, findall_reply, throw_reply, halt_reply, answered, reply}
+use Rattle.iso_model.specs.Search.Groups.{stripped, witness_of, pair}
+use Rattle.iso_model.specs.Search.BuiltIns.{Reply, Raises, Calls, CallsOnce, Refutes, Catches, Gathers, Halts, Writes, Collecting, AsList, InGroups, converted_reply, goal_reply, called_reply, grouping, groups_reply, throw_reply, halt_reply, answered, reply}
 use Rattle.iso_model.specs.Search.Library.{library_answer}
 use Rattle.iso_model.specs.Search.Replies.{Answer, Fail, Succeed, Equate, EquateCopy, Raise}
 use Rattle.iso_model.specs.Search.Bodies.{Body, Run, converted, map_body}
@@ -52,6 +53,9 @@ module _ {S L W M K P C N B O : Type 0} (l : Ghosts L S K P C N B O W M) (p q : 
 
   pub not_body : (place : _) → IsRunAs l p q old new (λ runs. goal_reply runs (argument 0 t) (key (codes "\\+") 1)) (placed.Body place) → IsReply l p q old new (reply built_in.Not t) (replied.Refutes place)
   not_body place h = subst (λ r. IsReply l p q old new r (replied.Refutes place)) (sym (h.1 Refutes)) h.2
+
+  pub exists_body : (place : _) → IsRunAs l p q old new (λ runs. goal_reply runs (argument 1 t) (key (codes "^") 2)) (placed.Body place) → IsReply l p q old new (reply built_in.Exists t) (replied.Calls place)
+  exists_body place h = subst (λ r. IsReply l p q old new r (replied.Calls place)) (sym (h.1 Calls)) h.2
 
 -- ---- a goal that can be run, or raises its error
 
@@ -130,7 +134,7 @@ module _ {S L W M K P C N B O : Type 0} (l : Ghosts L S K P C N B O W M) (p q : 
 -- ---- a goal is run inside a catch, or for all of its solutions
 
 abbrev for_all : Tree → Body → Reply
-for_all t b = if is_partial_list (argument 2 t) then Gathers (argument 0 t) b (argument 2 t) else Raises (type_error (codes "list") (argument 2 t) (key (codes "findall") 3))
+for_all t b = if is_partial_list (argument 2 t) then Gathers (argument 0 t) b (AsList (argument 2 t)) else Raises (type_error (codes "list") (argument 2 t) (key (codes "findall") 3))
 
 -- nothing is made for it, nor for its error
 module _ {S L W M K P C N B O : Type 0} (l : Ghosts L S K P C N B O W M) (p : Present W) (held : L) (t : Tree) where
@@ -149,7 +153,7 @@ module _ {S L W M K P C N B O : Type 0} (l : Ghosts L S K P C N B O W M) (p : Pr
   pub findall_found : CanBeRun (argument 1 t) → is_partial_list (argument 2 t) ≡ true → IsReply l p p held held (reply built_in.Findall t) replied.Gathers
   findall_found can partial =
       let found = run_found (for_all t) (argument 1 t) (key (codes "findall") 3) can in
-      let is : reply built_in.Findall t ≡ Gathers (argument 0 t) found.0 (argument 2 t) = found.1 ∙ ap (λ x. if x then Gathers (argument 0 t) found.0 (argument 2 t) else Raises (type_error (codes "list") (argument 2 t) (key (codes "findall") 3))) partial in
+      let is : reply built_in.Findall t ≡ Gathers (argument 0 t) found.0 (AsList (argument 2 t)) = found.1 ∙ ap (λ x. if x then Gathers (argument 0 t) found.0 (AsList (argument 2 t)) else Raises (type_error (codes "list") (argument 2 t) (key (codes "findall") 3))) partial in
       subst (λ r. IsReply l p p held held r replied.Gathers) (sym is) (refl, refl)
 
   pub findall_error : (ball : Ball) → IsRefused (argument 1 t) (key (codes "findall") 3) ball → IsReply l p p held held (reply built_in.Findall t) (replied.Raises ball)
@@ -161,9 +165,41 @@ module _ {S L W M K P C N B O : Type 0} (l : Ghosts L S K P C N B O W M) (p : Pr
   findall_no_list ball can none is_error fits =
       let error = type_error (codes "list") (argument 2 t) (key (codes "findall") 3) in
       let found = run_found (for_all t) (argument 1 t) (key (codes "findall") 3) can in
-      let is : reply built_in.Findall t ≡ Raises error = found.1 ∙ ap (λ x. if x then Gathers (argument 0 t) found.0 (argument 2 t) else Raises error) none in
+      let is : reply built_in.Findall t ≡ Raises error = found.1 ∙ ap (λ x. if x then Gathers (argument 0 t) found.0 (AsList (argument 2 t)) else Raises error) none in
       let ball_fits : arities_fit error ≡ true = rw fits refl in
       subst (λ r. IsReply l p p held held r (replied.Raises ball)) (sym is) (raised_here error ball is_error (ap arities_fit is_error ∙ ball_fits))
+
+-- ---- a goal is run for groups of its solutions
+
+abbrev in_groups : Bool → Tree → Key → Body → Reply
+in_groups sorts t k b =
+    if is_partial_list (argument 2 t) then Gathers (pair (witness_of (argument 0 t) (argument 1 t)) (argument 0 t)) b (InGroups (grouping sorts (argument 0 t) (argument 1 t) (argument 2 t)))
+    else Raises (type_error (codes "list") (argument 2 t) k)
+
+abbrev groups_of_goal : Bool → Tree → Key → Reply
+groups_of_goal sorts t k = groups_reply sorts (argument 0 t) (argument 1 t) (argument 2 t) k
+
+module _ {S L W M K P C N B O : Type 0} (l : Ghosts L S K P C N B O W M) (p : Present W) (held : L) (t : Tree) (sorts : Bool) (k : Key) where
+  pub groups_found : CanBeRun (stripped (argument 1 t)) → is_partial_list (argument 2 t) ≡ true → IsReply l p p held held (groups_of_goal sorts t k) (replied.Groups sorts)
+  groups_found can partial =
+      let found = run_found (in_groups sorts t k) (stripped (argument 1 t)) k can in
+      let gathers = Gathers (pair (witness_of (argument 0 t) (argument 1 t)) (argument 0 t)) found.0 (InGroups (grouping sorts (argument 0 t) (argument 1 t) (argument 2 t))) in
+      let is : groups_of_goal sorts t k ≡ gathers = found.1 ∙ ap (λ x. if x then gathers else Raises (type_error (codes "list") (argument 2 t) k)) partial in
+      subst (λ r. IsReply l p p held held r (replied.Groups sorts)) (sym is) (refl, refl, refl)
+
+  pub groups_error : (ball : Ball) → IsRefused (stripped (argument 1 t)) k ball → IsReply l p p held held (groups_of_goal sorts t k) (replied.Raises ball)
+  groups_error ball refused = subst (λ r. IsReply l p p held held r (replied.Raises ball)) (sym (refused.0 (in_groups sorts t k))) (raised_here l p held t (term_of ball.term.value) ball refl refused.1)
+
+  -- but not where the result is no partial list
+  pub groups_no_list : (ball : Ball) → CanBeRun (stripped (argument 1 t)) → is_partial_list (argument 2 t) ≡ false → term_of ball.term.value ≡ type_error (codes "list") (argument 2 t) k → arities_fit (argument 2 t) ≡ true
+      → IsReply l p p held held (groups_of_goal sorts t k) (replied.Raises ball)
+  groups_no_list ball can none is_error fits =
+      let error = type_error (codes "list") (argument 2 t) k in
+      let found = run_found (in_groups sorts t k) (stripped (argument 1 t)) k can in
+      let gathers = Gathers (pair (witness_of (argument 0 t) (argument 1 t)) (argument 0 t)) found.0 (InGroups (grouping sorts (argument 0 t) (argument 1 t) (argument 2 t))) in
+      let is : groups_of_goal sorts t k ≡ Raises error = found.1 ∙ ap (λ x. if x then gathers else Raises error) none in
+      let ball_fits : arities_fit error ≡ true = rw fits refl in
+      subst (λ r. IsReply l p p held held r (replied.Raises ball)) (sym is) (raised_here l p held t error ball is_error (ap arities_fit is_error ∙ ball_fits))
 
 -- ---- a ball is thrown, and the search is ended
 
@@ -225,10 +261,11 @@ module _ (Is : Reply → Type 0) (none_raised : (error : Tree) → Is (Raises er
   none_ended (Integer z) k h = none_status (int_lt z (pos 0) || int_lt (pos 255) z) (domain_error (codes "exit_code") (Integer z) k) (nat_abs z) h
   none_ended t k h = none_raised _ h
 
-  none_found : (template goal result : Tree) (k : Key) → ((b : Body) → Is (Gathers template b result) → ⊥) → Is (findall_reply template goal result k) → ⊥
-  none_found template goal result k none h =
-      none_goal (λ b. if is_partial_list result then Gathers template b result else Raises (type_error (codes "list") result k)) goal k (λ b. partial b (is_partial_list result)) h where
-        partial : (b : Body) (x : Bool) → Is (if x then Gathers template b result else Raises (type_error (codes "list") result k)) → ⊥
+  none_found : (template goal result : Tree) (collecting : Collecting) (k : Key) → ((b : Body) → Is (Gathers template b collecting) → ⊥)
+      → Is (goal_reply (λ b. if is_partial_list result then Gathers template b collecting else Raises (type_error (codes "list") result k)) goal k) → ⊥
+  none_found template goal result collecting k none h =
+      none_goal (λ b. if is_partial_list result then Gathers template b collecting else Raises (type_error (codes "list") result k)) goal k (λ b. partial b (is_partial_list result)) h where
+        partial : (b : Body) (x : Bool) → Is (if x then Gathers template b collecting else Raises (type_error (codes "list") result k)) → ⊥
         partial b true i = none b i
         partial b false i = none_raised _ i
 
@@ -239,7 +276,7 @@ module _ (Is : Reply → Type 0) (none_raised : (error : Tree) → Is (Raises er
 -- a goal is run inside a catch, or else it is run for all of its solutions
 abbrev IsEither : Bool → Reply → Type 0
 IsEither catches (Catches inside catcher recovery) = catches ≡ true
-IsEither catches (Gathers template b result) = catches ≡ false
+IsEither catches (Gathers template b (AsList result)) = catches ≡ false
 IsEither catches x = ⊥
 
 neither_answered : (catches : Bool) (x : Answer) → IsEither catches (answered x) → ⊥
@@ -254,8 +291,15 @@ only_either true built_in.Catch t h = refl
 only_either false built_in.Catch t h = absurd (false≢true h)
 only_either catches built_in.Throw t h = absurd (none_thrown (IsEither catches) (λ e i. i) (λ n i. i) (argument 0 t) (key (codes "throw") 1) h)
 only_either catches built_in.HaltWith t h = absurd (none_ended (IsEither catches) (λ e i. i) (λ n i. i) (argument 0 t) (key (codes "halt") 1) h)
-only_either true built_in.Findall t h = absurd (none_found (IsEither true) (λ e i. i) (λ n i. i) (argument 0 t) (argument 1 t) (argument 2 t) (key (codes "findall") 3) (λ b i. false≢true (sym i)) h)
+only_either true built_in.Findall t h = absurd (none_found (IsEither true) (λ e i. i) (λ n i. i) (argument 0 t) (argument 1 t) (argument 2 t) (AsList (argument 2 t)) (key (codes "findall") 3) (λ b i. false≢true (sym i)) h)
 only_either false built_in.Findall t h = refl
+only_either catches built_in.Bagof t h =
+    absurd (none_found (IsEither catches) (λ e i. i) (λ n i. i) (pair (witness_of (argument 0 t) (argument 1 t)) (argument 0 t)) (stripped (argument 1 t)) (argument 2 t)
+    (InGroups (grouping false (argument 0 t) (argument 1 t) (argument 2 t))) (key (codes "bagof") 3) (λ b i. i) h)
+only_either catches built_in.Setof t h =
+    absurd (none_found (IsEither catches) (λ e i. i) (λ n i. i) (pair (witness_of (argument 0 t) (argument 1 t)) (argument 0 t)) (stripped (argument 1 t)) (argument 2 t)
+    (InGroups (grouping true (argument 0 t) (argument 1 t) (argument 2 t))) (key (codes "setof") 3) (λ b i. i) h)
+only_either catches built_in.Exists t h = absurd (none_goal (IsEither catches) (λ e i. i) (λ n i. i) Calls (argument 1 t) (key (codes "^") 2) (λ b i. i) h)
 only_either catches (built_in.Library row) t h = absurd (neither_answered catches (library_answer row t) h)
 only_either catches (built_in.Text row) t h = absurd (neither_answered catches (text_answer row t) h)
 only_either catches (built_in.Output PutChar) t h = absurd (none_put (IsEither catches) (λ e i. i) (λ n i. i) (element_code Characters (argument 0 t) put_char_key) (λ bytes i. i) h)
@@ -295,20 +339,20 @@ caught_goal goal k c is = by_answer (runs_or_raises Calls goal k) where
   by_answer (inr h) = let no : Raises h.0 ≡ Calls c = sym h.1 ∙ is in absurd cc
 
 -- so where a goal is run for all of its solutions
-found_parts : (t : Tree) (x : Reply) (template result : Tree) (c : Body) → x ≡ Gathers template c result → RunsOrRaises (for_all t) (argument 1 t) x
+found_parts : (t : Tree) (x : Reply) (template result : Tree) (c : Body) → x ≡ Gathers template c (AsList result) → RunsOrRaises (for_all t) (argument 1 t) x
     → (template ≡ argument 0 t) × (result ≡ argument 2 t) × CanBeRun (argument 1 t) × (converted (argument 1 t) ≡ Some c)
-found_parts t x template result c is (inr h) = let no : Raises h.0 ≡ Gathers template c result = sym h.1 ∙ is in absurd cc
+found_parts t x template result c is (inr h) = let no : Raises h.0 ≡ Gathers template c (AsList result) = sym h.1 ∙ is in absurd cc
 found_parts t x template result c is (inl h) = by_list (is_partial_list (argument 2 t)) (sym h.1.2 ∙ is) where
-  by_list : (y : Bool) → (if y then Gathers (argument 0 t) h.1.0 (argument 2 t) else Raises (type_error (codes "list") (argument 2 t) (key (codes "findall") 3))) ≡ Gathers template c result
+  by_list : (y : Bool) → (if y then Gathers (argument 0 t) h.1.0 (AsList (argument 2 t)) else Raises (type_error (codes "list") (argument 2 t) (key (codes "findall") 3))) ≡ Gathers template c (AsList result)
       → (template ≡ argument 0 t) × (result ≡ argument 2 t) × CanBeRun (argument 1 t) × (converted (argument 1 t) ≡ Some c)
   by_list true same = (cc, cc, h.0, h.1.1 ∙ ap Some cc)
   by_list false same = absurd cc
 
-pub gather_parts : (b : BuiltIn) (t template result : Tree) (c : Body) → reply b t ≡ Gathers template c result
+pub gather_parts : (b : BuiltIn) (t template result : Tree) (c : Body) → reply b t ≡ Gathers template c (AsList result)
     → (b ≡ built_in.Findall) × (template ≡ argument 0 t) × (result ≡ argument 2 t) × CanBeRun (argument 1 t) × (converted (argument 1 t) ≡ Some c)
 gather_parts b t template result c is =
     let own : b ≡ built_in.Findall = only_either false b t (subst (λ (x : Reply). IsEither false x) (sym is) refl) in
-    let there : reply built_in.Findall t ≡ Gathers template c result = subst (λ (x : BuiltIn). reply x t ≡ Gathers template c result) own is in
+    let there : reply built_in.Findall t ≡ Gathers template c (AsList result) = subst (λ (x : BuiltIn). reply x t ≡ Gathers template c (AsList result)) own is in
     let parts = found_parts t (reply built_in.Findall t) template result c there (runs_or_raises (for_all t) (argument 1 t) (key (codes "findall") 3)) in
     (own, parts.0, parts.1, parts.2, parts.3)
 

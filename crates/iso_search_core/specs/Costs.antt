@@ -3,7 +3,7 @@
 use Rattle.std.specs.Prelude.{ℕ, suc, ◌+◌, List, [], ◌∷◌, length}
 use Rattle.iso_db.specs.Keyed.{remaining_keyed}
 use Rattle.iso_search_core.specs.Offers.{rows_in}
-use Rattle.iso_search_core.specs.Bodies.{left_cost}
+use Rattle.iso_search_core.specs.Bodies.{left_cost, most}
 use Rattle.iso_search_core.specs.declared.choices.Left.{Left}
 use Rattle.iso_search_core.specs.declared.choices.Left.TheVariants as left
 use Rattle.iso_search_core.specs.declared.choices.Choice as kept
@@ -16,6 +16,8 @@ tried_cost left.AsIs rest = suc rest
 tried_cost left.Again rest = suc rest
 tried_cost (left.Catching goal) rest = left_cost 1 rest
 tried_cost (left.Gathering result gathered) rest = suc rest
+tried_cost (left.Grouping by pairs) rest = left_cost most rest
+tried_cost (left.Groups by groups) rest = left_cost (length groups.items) rest
 tried_cost (left.Offered goal offers) rest = left_cost (length (rows_in offers)) rest
 tried_cost (left.Shown shown) rest = left_cost (suc (remaining_keyed shown.later)) rest
 tried_cost (left.Clauses attempt) rest = left_cost (suc (remaining_keyed attempt.later)) rest

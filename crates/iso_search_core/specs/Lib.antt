@@ -1,10 +1,12 @@
 pub mod Arities
+pub mod Asking
 pub mod Bodies
 pub mod Cells
 pub mod Constructs
 pub mod Costs
 pub mod Fitting
 pub mod Gathering
+pub mod GroupsLeft
 pub mod GoalKinds
 pub mod Keeping
 pub mod Offers

@@ -8,7 +8,7 @@ use Rattle.iso_model.specs.Terms.Substitutions.{Subst, apply}
 use Rattle.iso_model.specs.Terms.Copies.{copy_from}
 use Rattle.iso_model.specs.Terms.Unifiers.{Unifier, NeverEqual}
 use Rattle.iso_model.specs.Search.Bodies.{Body, map_body}
-use Rattle.iso_model.specs.Search.BuiltIns.{Reply, Fails, Succeeds, Equates, EquatesCopy, Raises, Calls, CallsOnce, Refutes, Repeats, Catches, Gathers, Halts, AsksWorld, Writes, goal_reply}
+use Rattle.iso_model.specs.Search.BuiltIns.{Reply, Fails, Succeeds, Equates, EquatesCopy, Raises, Calls, CallsOnce, Refutes, Repeats, Catches, Gathers, Halts, AsksWorld, Writes, AsList, InGroups, goal_reply}
 use Rattle.iso_model.specs.Search.Errors.{Key, max_arity_error}
 use Rattle.iso_model.specs.declared.built_ins.BuiltIn.{BuiltIn}
 use Rattle.iso_model.specs.declared.built_ins.BuiltIn.TheVariants as built
@@ -107,7 +107,8 @@ module _ {S L W M K P C N B O : Type 0} (l : Ghosts L S K P C N B O W M) where
   IsReply p q old new (Calls b) (replied.Calls place) = Places p q old new b place
   IsReply p q old new (CallsOnce b) (replied.CallsOnce place) = Places p q old new b place
   IsReply p q old new (Refutes b) (replied.Refutes place) = Places p q old new b place
-  IsReply p q old new (Gathers template b result) replied.Gathers = (q ≡ p) × (new ≡ old)
+  IsReply p q old new (Gathers template b (AsList result)) replied.Gathers = (q ≡ p) × (new ≡ old)
+  IsReply p q old new (Gathers template b (InGroups by)) (replied.Groups sorts) = (q ≡ p) × (new ≡ old) × (by.sorts ≡ sorts)
   IsReply p q old new Repeats replied.Repeats = (q ≡ p) × (new ≡ old)
   IsReply p q old new (AsksWorld settles) (replied.AsksSettings row) = (q ≡ p) × (new ≡ old)
   IsReply p q old new (AsksWorld settles) (replied.AsksDatabase row) = (q ≡ p) × (new ≡ old)

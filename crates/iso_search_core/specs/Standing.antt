@@ -1,5 +1,6 @@
 -- How choices, and what comes next, stand for a state of the search, however lists of goals are kept.
-use Rattle.std.specs.Prelude.{◌≡◌, ℕ, ◌+◌, ◌*◌, ◌-◌, ◌≤◌, ◌<◌, List, [], ◌∷◌, ◌++◌, length, map, take, Option, Some, None, true, ◌⊎◌}
+use Rattle.std.specs.Prelude.{◌≡◌, ℕ, ◌+◌, ◌*◌, ◌-◌, ◌≤◌, ◌<◌, List, [], ◌∷◌, ◌++◌, length, map, take, reverse, Vec, Option, Some, None, true, ◌⊎◌}
+use Rattle.std.specs.List.{All}
 use Rattle.iso_model.specs.Terms.Trees.{Tree, row, arities_fit}
 use Rattle.iso_model.specs.Terms.Arguments.{arity, argument}
 use Rattle.iso_model.specs.Terms.Variables.{variables}
@@ -7,15 +8,20 @@ use Rattle.iso_model.specs.Terms.Lists.{list_of}
 use Rattle.iso_model.specs.Terms.Substitutions.{Subst}
 use Rattle.iso_model.specs.Search.Databases.{Clause, Key, key_of}
 use Rattle.iso_model.specs.Search.BuiltIns.{built_in}
-use Rattle.iso_model.specs.Search.Walker.{State, Member, Fail, Raise, Alternative, AsIs, Again, Clauses, Catching, Gathering, Offered, idle}
+use Rattle.iso_model.specs.Search.Walker.{State, Member, Fail, Raise, Alternative, AsIs, Again, Clauses, Catching, Gathering, Offered, Groups, idle}
+use Rattle.iso_model.specs.Search.Replies.{Grouping, AsList, InGroups}
 use Rattle.iso_model.specs.Search.Walker as walker
 use Rattle.iso_store_core.specs.Presents.{Present, meaning}
 use Rattle.iso_program.specs.Leaving.{Leaving}
-use Rattle.iso_search_core.specs.Solutions.{copies_of}
+use Rattle.iso_lib_core.specs.declared.collecting.Meeting.{Meeting}
+use Rattle.iso_lib_core.specs.declared.groups.Group.{Group}
+use Rattle.iso_lib_core.specs.Groupings.{IsWhole, solutions_of}
+use Rattle.iso_search_core.specs.Solutions.{copies_of, pairs_of}
 use Rattle.iso_search_core.specs.Offers.{goal_arguments, rows_in, rights_of, AreRows}
 use Rattle.iso_program.specs.ClauseOffers.{clause_offer}
 use Rattle.iso_search_core.specs.declared.offers.Offers.{Offers}
 use Rattle.iso_search_core.specs.declared.solutions.Gathered.{Gathered}
+use Rattle.iso_search_core.specs.declared.pairs.Pairs.{Pairs}
 use Rattle.iso_search_core.specs.declared.lists.Lists.{Ghosts}
 use Rattle.iso_search_core.specs.Keeping.{KeepsOf, KeepsAll}
 use Rattle.iso_search_core.specs.Words.{AreVariables}
@@ -26,6 +32,18 @@ use Rattle.iso_program.specs.declared.showing.Showing.{Showing}
 use Rattle.iso_search_core.specs.declared.choices.Choice as kept
 use Rattle.iso_search_core.specs.declared.nows.Now.{Now}
 use Rattle.iso_search_core.specs.declared.nows.Now.TheVariants as now
+
+-- how the solutions of a bagof/3 or setof/3 come, by these words
+abbrev pub grouping_of : {W : Type 0} → Present W → Meeting W → Grouping
+grouping_of p by = record { witness = meaning p by.witness; result = meaning p by.result; sorts = by.sorts }
+
+-- groups, the last of which comes first
+abbrev pub groups_in : List Group → List (List Tree)
+groups_in groups = map solutions_of (reverse groups)
+
+-- A group has an item for each witness, and a store can hold it.
+abbrev pub IsGroup : Group → Type 0
+IsGroup g = IsWhole g × (arities_fit (list_of (solutions_of g)) ≡ true)
 
 -- The item is one of the list.
 abbrev pub Among : {X : Type 0} → X → List X → Type 0
@@ -41,7 +59,8 @@ most_numbers = 4611686018427387904
 abbrev pub numbers_a_step : ℕ
 numbers_a_step = 536870912
 
--- how many clauses are entered or shown, balls caught, or lists made, at once where this is tried, without a step
+-- how many clauses are entered or shown, balls caught, or lists or groups made, at once where this is tried, without a
+-- step
 abbrev pub entered_at : walker.Left → ℕ
 entered_at AsIs = 0
 entered_at Again = 0
@@ -49,6 +68,7 @@ entered_at (Clauses call cs) = 1
 entered_at (Catching catcher recovery) = 1
 entered_at (Gathering result copies count) = 1
 entered_at (Offered left rights) = 1
+entered_at (Groups by groups) = 1
 
 -- Room is left for the numbers of a clause entered or shown, a ball caught or a list made at each alternative, and in
 -- each step that is left.
@@ -83,8 +103,23 @@ module _ {W C : Type 0} (leaves : Leaving) (calls : C → Tree → Type 0) (p : 
   -- The result of a findall/3, this word, is to be unified with the list of these copies, which a store can hold.
   pub record HasGathered (result : W) (gathered : Gathered) (a : Alternative) : Type 0 where
     pub holds : p.holds result ≡ true
-    pub is : a.left ≡ Gathering (meaning p result) (copies_of gathered) gathered.variables
+    pub is : a.left ≡ Gathering (AsList (meaning p result)) (copies_of gathered) gathered.variables
     pub fits : arities_fit (list_of (copies_of gathered)) ≡ true
+
+  -- The witness and the result, these words, are to meet the groups of these pairs, which a store can hold.
+  pub record HasGrouping (by : Meeting W) (pairs : Pairs) (a : Alternative) : Type 0 where
+    pub witness : p.holds by.witness ≡ true
+    pub result : p.holds by.result ≡ true
+    pub is : a.left ≡ Gathering (InGroups (grouping_of p by)) (pairs_of pairs) pairs.variables
+    pub fits : arities_fit (list_of (pairs_of pairs)) ≡ true
+
+  -- They are to meet these groups.
+  pub record HasGroups (by : Meeting W) (groups : List Group) (a : Alternative) : Type 0 where
+    pub witness : p.holds by.witness ≡ true
+    pub result : p.holds by.result ≡ true
+    pub is : a.left ≡ Groups (grouping_of p by) (groups_in groups)
+    pub each : All IsGroup groups
+    pub some : 0 < length groups
 
   -- The arguments of this goal are to be unified with these rows.
   pub record HasOffered (goal : W) (offers : Offers) (a : Alternative) : Type 0 where
@@ -112,6 +147,8 @@ module _ {W C : Type 0} (leaves : Leaving) (calls : C → Tree → Type 0) (p : 
   HasLeft (left.Clauses attempt) a = HasClauses attempt a
   HasLeft (left.Catching goal) a = HasCatch goal a
   HasLeft (left.Gathering result gathered) a = HasGathered result gathered a
+  HasLeft (left.Grouping by pairs) a = HasGrouping by pairs a
+  HasLeft (left.Groups by groups) a = HasGroups by groups.items a
   HasLeft (left.Offered goal offers) a = HasOffered goal offers a
   HasLeft (left.Shown shown) a = HasShown shown a
 

@@ -1,10 +1,11 @@
 //! Choices, and what is left to be tried at each.
-ghost use Rattle.std.specs.Prelude.{◌≡◌, ℕ, ◌+◌, ◌<◌, ◌≤◌, OnOk, OnErr, length, slice_get, Some, Vec};
+ghost use Rattle.std.specs.Prelude.{◌≡◌, ℕ, ◌+◌, ◌<◌, ◌≤◌, IfOk, OnOk, OnErr, length, slice_get, Some, Vec};
 ghost use Rattle.std.specs.Global.{Global};
 ghost use Rattle.iso_store_core.specs.Retaining.{Retains};
 ghost use Rattle.iso_search_core.specs.Standing.{GainsChoice};
 ghost use Rattle.iso_search_core.specs.Solutions.{Gains};
 ghost use Rattle.iso_search_core.specs.Gathering.{ChangesAt, SameCopies};
+ghost use Rattle.iso_search_core.specs.GroupsLeft.{LeavesGroups, AreGroupsLeft};
 ghost use Rattle.iso_model.specs.Terms.Trees.{Tree};
 ghost use Rattle.iso_search_core.specs.Offers.{AreRows, rows_in};
 ghost use Rattle.iso_search_core.specs.Taking.{TakesOffer};
@@ -14,8 +15,10 @@ ghost use Rattle.iso_search_core.specs.declared.choices.Choice as kept;
 ghost use Rattle.iso_model.specs.Terms.TermOf.{term_of};
 
 use super::offers::{OfferedRow, Offers};
+use super::pairs::Pairs;
 use super::solutions::Gathered;
 use iso_db::{ClauseId, KeyedView};
+use iso_lib::{Group, Meeting, groups};
 use iso_model::{NoMemory, Term};
 use iso_program::showing::Showing;
 use iso_store_core::Store;
@@ -42,6 +45,10 @@ pub enum Left<W, C> {
     Catching(W),
     /// To unify this word, the result of a findall/3, with the list of what was gathered (8.10.1).
     Gathering(W, Gathered),
+    /// The groups of what was gathered for a bagof/3 or setof/3, which come so (8.10.2, 8.10.3).
+    Grouping(Meeting<W>, Pairs),
+    /// These groups, the last of which comes first.
+    Groups(Meeting<W>, Vec<Group>),
     /// To unify the arguments of this goal with rows.
     Offered(W, Offers),
     /// The heads and bodies of the clauses from this one on.
@@ -100,6 +107,7 @@ pub fn gather<W, M, K, P, C>(
     }
     match &mut choices[place].left {
         Left::Gathering(_, gathered) => gathered.add(alloc, solution),
+        Left::Grouping(_, pairs) => pairs.add(alloc, solution),
         _ => Ok(()),
     }
 }
@@ -122,5 +130,25 @@ pub fn take_offer<W, M, K, P, C>(
             Some((row, offers.is_empty()))
         }
         _ => None,
+    }
+}
+
+/// How the groups come that this leaves to be met, and these groups, the last of which comes first. The error is that
+/// memory was refused.
+pub fn groups_left<W: Copy, C: Copy>(
+    alloc: Global,
+    left: Left<W, C>,
+) -> Result<(Meeting<W>, Vec<Group>), NoMemory>
+    requires { LeavesGroups left }
+    ensures { IfOk result (λ r. AreGroupsLeft left r.0 r.1.items) }
+{
+    match left {
+        Left::Groups(by, groups) => Ok((by, groups)),
+        Left::Grouping(by, pairs) => {
+            let mut groups = groups(alloc, pairs.pairs)?;
+            groups.reverse();
+            Ok((by, groups))
+        }
+        _ => unreachable!(),
     }
 }

@@ -5,15 +5,18 @@
 pub mod ends;
 pub mod lists;
 pub mod own;
-// rows that goals offer, and what findall/3 gathers
+// rows that goals offer, and what is gathered
 pub mod offers;
+pub mod pairs;
 mod part_rows;
 pub mod solutions;
 // choices, and what comes next
 pub mod choices;
 pub mod nows;
 // goals that are called, new variables, and what goals of built-ins come to
+pub mod asking;
 pub mod callable_goals;
+pub mod exists;
 pub mod goals;
 pub mod replies;
 pub mod variables;

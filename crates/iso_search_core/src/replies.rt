@@ -22,6 +22,7 @@ ghost use Rattle.iso_model.specs.Terms.Arguments as parts;
 ghost use Rattle.iso_model.specs.Search.Errors.{key};
 ghost use Rattle.iso_search_core.specs.Standing.{Keeps};
 
+use super::exists::stripped;
 use super::goals::{Placed, goal_error, place_argument, place_called};
 use super::lists::Lists;
 use iso_lib::{Fault, Reply, builtin, errors, lists};
@@ -54,6 +55,9 @@ pub enum Replied<B> {
     RaisesInside(Ball),
     /// Its second argument is run for all of its solutions (8.10.1).
     Gathers,
+    /// What is left of its second argument behind each `V^` is run for all of its solutions, which come in groups;
+    /// their lists are sorted, or not (8.10.2, 8.10.3).
+    Groups(bool),
     /// The session ends with this status (8.17.3, 8.17.4).
     Halts(u8),
     /// What it comes to rests on the operators and the flags (8.14.3, 8.14.4, 8.17.1, 8.17.2).
@@ -115,6 +119,14 @@ pub fn reply<S: Store, L: Lists<S>>(
         BuiltIn::Halt => Ok(Replied::Halts(0)),
         BuiltIn::HaltWith => halted(alloc, store, arguments),
         BuiltIn::Findall => Ok(findall::<S, L>(alloc, store, controls, arguments)?),
+        BuiltIn::Bagof => Ok(groups::<S, L>(alloc, store, controls, arguments, "bagof", false)?),
+        BuiltIn::Setof => Ok(groups::<S, L>(alloc, store, controls, arguments, "setof", true)?),
+        BuiltIn::Exists => match place_argument(
+            alloc, store, controls, lists, arguments, 1, "^", 2,
+        )? {
+            Placed::Body(place) => Ok(Replied::Calls(place)),
+            Placed::Raises(ball) => Ok(Replied::Raises(ball)),
+        },
         BuiltIn::Library(row) => library::<S, L>(alloc, store, vocabulary, row, arguments),
         BuiltIn::Setting(row) => Ok(Replied::AsksSettings(row)),
         BuiltIn::Storage(row) => Ok(Replied::AsksDatabase(row)),
@@ -222,6 +234,36 @@ fn findall<S: Store, L: Lists<S>>(
         return Ok(Replied::Raises(ball));
     }
     Ok(Replied::Gathers)
+}
+
+/// What a goal of `bagof/3` or `setof/3` comes to, whose name this is (8.10.2, 8.10.3). The error is that memory was
+/// refused.
+fn groups<S: Store, L: Lists<S>>(
+    alloc: Global,
+    store: &S,
+    controls: &Controls,
+    arguments: &[S::Word],
+    name: &str,
+    sorts: bool,
+) -> Result<Replied<L::Body>, NoMemory>
+    requires arguments { All (λ w. Holds (S.present store.now) w) arguments.now }
+    requires count { length arguments.now ≡ 3 }
+    requires controls { AreControls (S.names store.now) controls.now }
+    ensures replies { (t : Tree) → AreArguments (S.present store.now) arguments.now t
+        → (lists : L) → IfOk result (IsReply L.Lists (S.present store.now) (S.present store.now) lists lists
+        (table.groups_reply sorts (parts.argument 0 t) (parts.argument 1 t) (parts.argument 2 t) (key name.now 3))) }
+    ensures asks { (built_in : BuiltIn) → IfOk result (Asks built_in) }
+{
+    let (goal, list) = (stripped(store, arguments[1]), arguments[2]);
+    if let Some(ball) = goal_error(alloc, store, controls, goal, name, 3)? {
+        return Ok(Replied::Raises(ball));
+    }
+    if !lists::is_partial_list(store, list) {
+        let culprit = store.copy_out(list)?;
+        let ball = errors::wrong_type(alloc, "list", culprit, name, 3)?;
+        return Ok(Replied::Raises(ball));
+    }
+    Ok(Replied::Groups(sorts))
 }
 
 /// What a goal comes to that runs no other (8.2 to 8.7). The errors: the store is full, or memory was refused.

@@ -5,7 +5,7 @@ ghost use Rattle.iso_model.specs.Terms.TermOf.{term_of};
 ghost use Rattle.iso_model.specs.Terms.Copies.{copy_from};
 ghost use Rattle.iso_model.specs.Terms.Variables.{variable_count};
 ghost use Rattle.iso_model.specs.Terms.Lists.{list_of};
-ghost use Rattle.iso_search_core.specs.Solutions.{copies_of, Gains};
+ghost use Rattle.iso_search_core.specs.Solutions.{copies_of, GainsCopy};
 
 use iso_model::{NoMemory, Numbering, Term, renumbered_from};
 use std::alloc::Global;
@@ -20,7 +20,7 @@ pub struct Gathered {
 
 /// A copy of the solution with its variables numbered from this number on, and the number behind them. The error is
 /// that memory was refused, as it is for more than 4,294,967,295 variables.
-fn copy_of(alloc: Global, solution: &Term, first: u32) -> Result<(Term, u32), NoMemory>
+pub(crate) fn copy_of(alloc: Global, solution: &Term, first: u32) -> Result<(Term, u32), NoMemory>
     ensures copy { IfOk result (λ r. term_of r.0 ≡ copy_from (term_of solution.now) first) }
     ensures next { IfOk result (λ r. r.1 ≡ first + variable_count (term_of solution.now)) }
 {
@@ -49,7 +49,7 @@ impl Gathered {
 
     /// Adds a copy of the solution. The error is that memory was refused; nothing changed then.
     pub fn add(&mut self, alloc: Global, solution: &Term) -> Result<(), NoMemory>
-        ensures gains { OnOk result (Gains (term_of solution.now) self.old self.new) }
+        ensures gains { OnOk result (GainsCopy (term_of solution.now) self.old self.new) }
         ensures kept { OnErr result ((copies_of self.new ≡ copies_of self.old) × (self.new.variables ≡ self.old.variables)) }
     {
         let (copy, next) = copy_of(alloc, solution, self.variables)?;

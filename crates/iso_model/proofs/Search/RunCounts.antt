@@ -6,7 +6,7 @@ use Rattle.iso_ops.specs.declared.settings.Unknown.{Unknown}
 use Rattle.iso_ops.specs.declared.settings.Unknown.TheVariants as on_unknown
 use Rattle.iso_ops.specs.Operators.{Operator}
 use Rattle.iso_ops.specs.Settings.{flag_value}
-use Rattle.iso_model.specs.Terms.Trees.{Tree, Variable, Integer, Name, Apply, End, More}
+use Rattle.iso_model.specs.Terms.Trees.{Tree, Variable, Integer, Name, Apply, End, More, row}
 use Rattle.iso_model.specs.Terms.Sizes.{size}
 use Rattle.iso_model.specs.Terms.Types.{is_integer, is_variable}
 use Rattle.iso_model.specs.Terms.Arguments.{argument, arguments, arity, others, with_arguments}
@@ -18,10 +18,11 @@ use Rattle.iso_model.specs.Search.Bodies.{Body, Cut, Run, And, Or, If, Choose, c
 use Rattle.iso_model.specs.Search.Databases.{Clause, Key, key_of, clauses_at}
 use Rattle.iso_model.specs.Search.Replies.{Answer, Fail, Succeed, Equate, EquateCopy, Raise, answered}
 use Rattle.iso_model.specs.Search.BuiltIns.{Reply, Fails, Succeeds, Equates, EquatesCopy, Raises, Calls, CallsOnce, Refutes, Repeats, Catches, Gathers, Halts, AsksWorld, Writes, built_in, reply}
-use Rattle.iso_model.specs.Search.BuiltIns.{converted_reply, goal_reply, throw_reply, halt_reply}
+use Rattle.iso_model.specs.Search.BuiltIns.{converted_reply, goal_reply, grouping, groups_reply, throw_reply, halt_reply, Grouping, Collecting, AsList, InGroups}
+use Rattle.iso_model.specs.Search.Groups.{groups_of, stripped, witness_of, pair, witnesses, items, collection}
 use Rattle.iso_model.specs.Search.Outputs.{put_code, put_char_key, output_reply}
 use Rattle.iso_model.specs.Search.AtomTexts.{Characters, element_code, text_answer}
-use Rattle.iso_model.specs.Search.Library.{library_answer}
+use Rattle.iso_model.specs.Search.Library.{library_answer, list_made}
 use Rattle.iso_model.specs.Search.Keys.{key}
 use Rattle.iso_model.specs.Search.Errors.{type_error, domain_error, max_arity_error}
 use Rattle.iso_model.specs.Search.Settings.{has_unbound, name_list, set_names, op_settled, may_be_priority, may_be_specifier, may_be_atom, current_op_settled, set_flag_settled, may_be_flag, current_flag_settled, with_priority, with_specifier, with_texts, with_listed, op_set, is_settable, flags_with, flag_set, flag_settled, setting_settled}
@@ -41,7 +42,7 @@ use Rattle.iso_model.specs.declared.kinds.Output.TheVariants as output
 use Rattle.iso_model.specs.declared.kinds.AtomPart.{AtomPart}
 use Rattle.iso_model.specs.declared.kinds.AtomPart.TheVariants as atom_part
 use Rattle.iso_model.specs.Search.Walker as walker
-use Rattle.iso_model.specs.Search.Walker.{State, World, Member, Goal, CutTo, Leave, Meet, Gather, Left, AsIs, Again, Clauses, Catching, Gathering, Offered, Alternative, Outcome, Goes, Gives, Ends, charged, paid, entered, under, with_others, tried, retried, backtracked, unknown_called, written, called, equated, with_rights, taken, met_right, tried_right, is_there, offered, settled, replied, selected, run_goal, run_value, caught_at, caught, thrown, met, clause_size, pushed, step_goal, step_list, step, fails, with_copy, equated_copy, started}
+use Rattle.iso_model.specs.Search.Walker.{State, World, Member, Goal, CutTo, Leave, Meet, Gather, Left, AsIs, Again, Clauses, Catching, Gathering, Offered, Groups, Alternative, Outcome, collected, grouped, with_groups, tried_group, witnessed, repeated, with_copy, Goes, Gives, Ends, charged, paid, entered, under, with_others, tried, retried, backtracked, unknown_called, written, called, equated, with_rights, taken, met_right, tried_right, is_there, offered, settled, replied, selected, run_goal, run_value, caught_at, caught, thrown, met, clause_size, pushed, step_goal, step_list, step, fails, with_copy, equated_copy, started}
 use Rattle.iso_model.specs.Search.Runs as runs
 use Rattle.iso_model.specs.Search.Runs.{Trace, Then, Stops, goes, gives, ends}
 use Rattle.iso_model.specs.Search.RunLaws.{run_of, run_of_is}
@@ -126,13 +127,37 @@ settled_runs (Refuses error) rest s refuses = refl
 settled_runs (Changes made w) rest s (changes same) = same
 settled_runs (Offers left rights) rest s offers = offered_runs left rights rest s
 
+group_runs : (by : Grouping) (g : List Tree) (rest : List Member) (s : State) → (tried_group by g rest s).world.runs ≡ s.world.runs
+group_runs by g rest s =
+    let z = with_copy (size (list_of g)) (list_of g) s in
+    let solutions = apply s.subst (copy_from (list_of g) s.next) in
+    witnessed_runs (under s.subst (unifier_of (repeated by.witness (witnesses solutions)) (row (witnesses solutions)))) solutions z where
+      witnessed_runs : (u : Option Subst) (solutions : Tree) (z : State) → (witnessed u by solutions rest z).world.runs ≡ z.world.runs
+      witnessed_runs None solutions z = refl
+      witnessed_runs (Some u) solutions z =
+          let ts = collection by.sorts (items (apply u solutions)) in
+          equated_runs (under u (unifier_of (apply u by.result) (list_of ts))) rest (record z { subst = u; built = z.built + (1 + list_made (length ts)) })
+
+groups_runs : (by : Grouping) (gs : List (List Tree)) (rest : List Member) (s : State) → (with_groups by gs rest s).world.runs ≡ s.world.runs
+groups_runs by [] rest s = refl
+groups_runs by (g ∷ gs) rest s = refl
+
+grouped_runs : (by : Grouping) (gs : List (List Tree)) (rest : List Member) (s : State) → (grouped by gs rest s).world.runs ≡ s.world.runs
+grouped_runs by [] rest s = refl
+grouped_runs by (g ∷ gs) rest s = group_runs by g rest (with_groups by gs rest s) ∙ groups_runs by gs rest s
+
+collected_runs : (c : Collecting) (copies : List Tree) (rest : List Member) (s : State) → (collected c copies rest s).world.runs ≡ s.world.runs
+collected_runs (AsList result) copies rest s = copy_runs (size (list_of copies)) result (list_of copies) rest s
+collected_runs (InGroups by) copies rest s = grouped_runs by (groups_of copies) rest s
+
 retried_runs : (l : Left) (s : State) → KeepsRuns s.world.runs (retried l s)
 retried_runs AsIs s = refl
 retried_runs Again s = paid_runs s.steps s (Goes (pushed s.list Again s)) refl
 retried_runs (Clauses call cs) s = tried_runs call cs s.list s
 retried_runs (Catching catcher recovery) s = refl
-retried_runs (Gathering result copies count) s = copy_runs (size (list_of copies)) result (list_of copies) s.list s
+retried_runs (Gathering collecting copies count) s = collected_runs collecting copies s.list s
 retried_runs (Offered left rights) s = offered_runs left rights s.list s
+retried_runs (Groups by groups) s = grouped_runs by groups s.list s
 
 backtracked_runs : (stack : List Alternative) (s : State) → KeepsRuns s.world.runs (backtracked stack s)
 backtracked_runs [] s = refl
@@ -381,6 +406,12 @@ parts_settle n atom_part.Concat t =
     (atom_settles n (argument 0 t) concat_key _ (atom_settles n (argument 1 t) concat_key _ (atom_settles n (argument 2 t) concat_key _ (joined_settles n (argument 0 t) (argument 1 t) (argument 2 t)))))
 parts_settle n atom_part.Sub t = sub_settles n (argument 0 t) (argument 1 t) (argument 2 t) (argument 3 t) (argument 4 t)
 
+groups_replies : (sorts : Bool) (template goal result : Tree) (k : Key) → RepliesRuns (groups_reply sorts template goal result k)
+groups_replies sorts template goal result k =
+    let fault = Raises (type_error (codes "list") result k) in
+    let gathers : Body → Reply = λ b. Gathers (pair (witness_of template goal) template) b (InGroups (grouping sorts template goal result)) in
+    goal_replies (λ b. if is_partial_list result then gathers b else fault) (λ b. if_replies (is_partial_list result) (gathers b) fault tt tt) (stripped goal) k
+
 reply_runs : (b : BuiltIn) (t : Tree) → RepliesRuns (reply b t)
 reply_runs built_ins.True t = tt
 reply_runs built_ins.Fail t = tt
@@ -398,8 +429,11 @@ reply_runs built_ins.HaltWith t = halt_replies (argument 0 t) (key (codes "halt"
 reply_runs built_ins.Findall t =
     let k = key (codes "findall") 3 in
     let fault = Raises (type_error (codes "list") (argument 2 t) k) in
-    goal_replies (λ b. if is_partial_list (argument 2 t) then Gathers (argument 0 t) b (argument 2 t) else fault)
-    (λ b. if_replies (is_partial_list (argument 2 t)) (Gathers (argument 0 t) b (argument 2 t)) fault tt tt) (argument 1 t) k
+    goal_replies (λ b. if is_partial_list (argument 2 t) then Gathers (argument 0 t) b (AsList (argument 2 t)) else fault)
+    (λ b. if_replies (is_partial_list (argument 2 t)) (Gathers (argument 0 t) b (AsList (argument 2 t))) fault tt tt) (argument 1 t) k
+reply_runs built_ins.Bagof t = groups_replies false (argument 0 t) (argument 1 t) (argument 2 t) (key (codes "bagof") 3)
+reply_runs built_ins.Setof t = groups_replies true (argument 0 t) (argument 1 t) (argument 2 t) (key (codes "setof") 3)
+reply_runs built_ins.Exists t = goal_replies Calls (λ b. tt) (argument 1 t) (key (codes "^") 2)
 reply_runs (built_ins.Library row) t = answered_replies (library_answer row t)
 reply_runs (built_ins.Setting row) t = λ n w. setting_settles row t w
 reply_runs (built_ins.Storage row) t = λ n w. storage_settles row t n w
@@ -432,6 +466,7 @@ caught_at_runs Again a below ball s o h = h
 caught_at_runs (Clauses call cs) a below ball s o h = h
 caught_at_runs (Gathering result copies count) a below ball s o h = h
 caught_at_runs (Offered left rights) a below ball s o h = h
+caught_at_runs (Groups by groups) a below ball s o h = h
 
 caught_runs : (height : ℕ) (stack : List Alternative) (ball : Tree) (s : State) (o : Outcome) → KeepsRuns s.world.runs o → KeepsRuns s.world.runs (caught height stack ball s o)
 caught_runs height [] ball s o h = h

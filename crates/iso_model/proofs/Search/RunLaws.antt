@@ -7,6 +7,7 @@ pub mod SettingValues
 pub mod StorageValues
 pub mod TextValues
 pub mod PartValues
+pub mod GroupValues
 pub mod Values
 pub mod SameSteps
 pub mod SameRuns

@@ -4,13 +4,13 @@ use Rattle.iso_model.specs.Search.Walker.{State, Event, Outcome, Goes, Gives, En
 use Rattle.iso_model.specs.Search.Runs.{Trace, Then, Stops, Run, goes, gives, ends}
 use Rattle.iso_model.specs.Worked.Control.{CutTakesAlternativesAway, CutIsLocalToCall, CutActsThroughConjunctions, CutInThenAndCondition, ConditionsDecideOnce, NegationTakesAStep, OnceIsOnce, RepeatTakesSteps, GoalsAreChecked, ArgumentsAreAdded, CatchRunsItsGoal, LeftCatchesDontCatch, FindallChecks, HaltEnds}
 
-abbrev walk_on : (State → Option Trace) → Outcome → Option Trace
+abbrev pub walk_on : (State → Option Trace) → Outcome → Option Trace
 walk_on on (Goes t) = on t
 walk_on on (Gives e t) = option_map (Then e t.world) (on t)
 walk_on on (Ends e w) = Some (Stops e w)
 
 -- the run, where it has at most so many steps
-unfoldable walked : ℕ → State → Option Trace
+unfoldable pub walked : ℕ → State → Option Trace
 walked zero s = None
 walked (suc n) s = walk_on (walked n) (step s)
 
@@ -27,7 +27,7 @@ after s on (Ends e w) r is behind h =
     let same : Stops e w ≡ r = cc in
     subst (λ (x : Trace). Run s x) same (ends is)
 
-run_walked : (n : ℕ) (s : State) (r : Trace) → walked n s ≡ Some r → Run s r
+pub run_walked : (n : ℕ) (s : State) (r : Trace) → walked n s ≡ Some r → Run s r
 unfolding walked
 run_walked zero s r h = absurd (cc)
 run_walked (suc n) s r h = after s (walked n) (step s) r refl (run_walked n) h

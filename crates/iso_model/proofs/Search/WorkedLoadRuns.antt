@@ -9,6 +9,7 @@ use Rattle.iso_model.specs.Terms.Unifiers.{Unifier, NeverEqual}
 use Rattle.iso_model.specs.Terms.Unification.Composed.{unifier_same, unifier_apply, unifier_bound, unifier_more}
 use Rattle.iso_model.specs.Search.Bodies.{Run, And, one, two}
 use Rattle.iso_model.specs.Search.Databases.{Clause}
+use Rattle.iso_model.specs.Search.Replies.{AsList}
 use Rattle.iso_model.specs.Search.Walker.{State, Member, Goal, Fail, Leave, Raise, Meet, Alternative, Catching, Gathering, Goes, step, asked, started, equated, with_copy, met, meets}
 use Rattle.iso_model.specs.Worked.Runs.{number, facts, empty}
 use Rattle.iso_model.specs.Worked.Control.{true_goal, catch_goal, findall_goal}
@@ -179,7 +180,7 @@ one_copy = list_of (Name (codes "a") ∷ [])
 
 module _ (n : ℕ) where
   abbrev gatherer : Alternative
-  gatherer = record { list = []; subst = Variable; next = 1; built = 0; left = Gathering (Variable 0) (Name (codes "a") ∷ []) 0 }
+  gatherer = record { list = []; subst = Variable; next = 1; built = 0; left = Gathering (AsList (Variable 0)) (Name (codes "a") ∷ []) 0 }
 
   abbrev asked_findall : State
   asked_findall = started gathering (suc (suc n)) empty

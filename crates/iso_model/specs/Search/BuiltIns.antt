@@ -1,5 +1,5 @@
 -- What goals of the language's own procedures come to (ISO/IEC 13211-1:1995, 7.8 and 8).
-use Rattle.std.specs.Prelude.{nat_lt, int_lt, nat_abs, pos, ◌||◌, Option, Some, None, codes, if◌then◌else◌}
+use Rattle.std.specs.Prelude.{Bool, true, false, nat_lt, int_lt, nat_abs, pos, ◌||◌, Option, Some, None, codes, if◌then◌else◌}
 use Rattle.iso_model.specs.Terms.Trees.{Tree, Variable, Integer}
 use Rattle.iso_model.specs.Search.Keys.{Key, key}
 use Rattle.iso_model.specs.Search.Library.{library_answer}
@@ -10,12 +10,13 @@ use Rattle.iso_model.specs.Search.Outputs.{output_reply}
 use Rattle.iso_model.specs.Search.AtomParts.{parts_settled}
 use Rattle.iso_model.specs.Terms.Arguments.{argument, arguments, arity, others, with_arguments}
 use Rattle.iso_model.specs.Terms.Lists.{is_partial_list}
+use Rattle.iso_model.specs.Search.Groups.{stripped, witness_of, pair}
 use Rattle.iso_model.specs.Search.Bodies.{Body, converted}
 use Rattle.iso_model.specs.Search.Errors.{instantiation_error, type_error_callable, type_error, domain_error, max_arity_error}
 use Rattle.iso_model.specs.declared.built_ins.BuiltIn.{BuiltIn}
-use Rattle.iso_model.specs.declared.built_ins.BuiltIn.TheVariants.{True, Fail, Call, Once, Not, Repeat, Catch, Throw, Halt, HaltWith, Findall, Library, Setting, Storage, Text, Output, AtomPart}
+use Rattle.iso_model.specs.declared.built_ins.BuiltIn.TheVariants.{True, Fail, Call, Once, Not, Repeat, Catch, Throw, Halt, HaltWith, Findall, Bagof, Setof, Exists, Library, Setting, Storage, Text, Output, AtomPart}
 pub use Rattle.iso_model.specs.Search.Table.{built_ins, built_in_among, built_in, is_some_built_in, is_control, is_built_in}
-pub use Rattle.iso_model.specs.Search.Replies.{Reply, Fails, Succeeds, Equates, EquatesCopy, Raises, Calls, CallsOnce, Refutes, Repeats, Catches, Gathers, Halts, AsksWorld, Writes, answered}
+pub use Rattle.iso_model.specs.Search.Replies.{Reply, Fails, Succeeds, Equates, EquatesCopy, Raises, Calls, CallsOnce, Refutes, Repeats, Catches, Gathers, Halts, AsksWorld, Writes, answered, Grouping, Collecting, AsList, InGroups}
 
 -- a goal is run in this way where it can be converted; else this procedure raises an error
 abbrev pub converted_reply : (Body → Reply) → Option Body → Tree → Key → Reply
@@ -33,7 +34,19 @@ called_reply goal k = goal_reply (λ b. if nat_lt 255 (arity goal) then Raises (
 
 -- the result of a findall/3 is to be a partial list (8.10.1.3, as corrected)
 abbrev pub findall_reply : Tree → Tree → Tree → Key → Reply
-findall_reply template goal result k = goal_reply (λ b. if is_partial_list result then Gathers template b result else Raises (type_error (codes "list") result k)) goal k
+findall_reply template goal result k = goal_reply (λ b. if is_partial_list result then Gathers template b (AsList result) else Raises (type_error (codes "list") result k)) goal k
+
+-- how the solutions of this goal of bagof/3 or setof/3 come
+abbrev pub grouping : Bool → Tree → Tree → Tree → Grouping
+grouping sorts template goal result = record { witness = witness_of template goal; result = result; sorts = sorts }
+
+-- It runs what is left of the goal behind each `V^`, for pairs of the witness and the template; its result is to be a
+-- partial list (8.10.2.3, 8.10.3.3, as corrected).
+abbrev pub groups_reply : Bool → Tree → Tree → Tree → Key → Reply
+groups_reply sorts template goal result k =
+    goal_reply
+    (λ b. if is_partial_list result then Gathers (pair (witness_of template goal) template) b (InGroups (grouping sorts template goal result)) else Raises (type_error (codes "list") result k))
+    (stripped goal) k
 
 -- a ball is not to be unbound (7.8.10.3)
 abbrev pub throw_reply : Tree → Key → Reply
@@ -46,7 +59,7 @@ halt_reply (Variable n) k = Raises (instantiation_error k)
 halt_reply (Integer z) k = if int_lt z (pos 0) || int_lt (pos 255) z then Raises (domain_error (codes "exit_code") (Integer z) k) else Halts (nat_abs z)
 halt_reply t k = Raises (type_error (codes "integer") t k)
 
--- what this goal of the built-in comes to (7.8.1 to 7.8.3, 7.8.9, 7.8.10, 8.10.1, 8.15.1, 8.15.2, 8.15.3, 8.17.3,
+-- what this goal of the built-in comes to (7.8.1 to 7.8.3, 7.8.9, 7.8.10, 8.10, 8.15.1, 8.15.2, 8.15.3, 8.17.3,
 -- 8.17.4; call/2 to call/8 are own)
 abbrev pub reply : BuiltIn → Tree → Reply
 reply True t = Succeeds
@@ -60,6 +73,9 @@ reply Throw t = throw_reply (argument 0 t) (key (codes "throw") 1)
 reply Halt t = Halts 0
 reply HaltWith t = halt_reply (argument 0 t) (key (codes "halt") 1)
 reply Findall t = findall_reply (argument 0 t) (argument 1 t) (argument 2 t) (key (codes "findall") 3)
+reply Bagof t = groups_reply false (argument 0 t) (argument 1 t) (argument 2 t) (key (codes "bagof") 3)
+reply Setof t = groups_reply true (argument 0 t) (argument 1 t) (argument 2 t) (key (codes "setof") 3)
+reply Exists t = goal_reply Calls (argument 1 t) (key (codes "^") 2)
 reply (Library row) t = answered (library_answer row t)
 reply (Setting row) t = AsksWorld (λ n w. setting_settled row t w)
 reply (Storage row) t = AsksWorld (λ n w. storage_settled row t n w)

@@ -2,7 +2,7 @@
 use Rattle.std.specs.Prelude.{List, [], ◌∷◌, Bool, true, false, ◌||◌, Option, Some, None, codes, if◌then◌else◌}
 use Rattle.iso_model.specs.Search.Keys.{Key, key, same_key}
 use Rattle.iso_model.specs.declared.built_ins.BuiltIn.{BuiltIn}
-use Rattle.iso_model.specs.declared.built_ins.BuiltIn.TheVariants.{True, Fail, Call, Once, Not, Repeat, Catch, Throw, Halt, HaltWith, Findall, Library, Setting, Storage, Text, Output, AtomPart}
+use Rattle.iso_model.specs.declared.built_ins.BuiltIn.TheVariants.{True, Fail, Call, Once, Not, Repeat, Catch, Throw, Halt, HaltWith, Findall, Bagof, Setof, Exists, Library, Setting, Storage, Text, Output, AtomPart}
 use Rattle.iso_model.specs.declared.kinds.Library.TheVariants as library
 use Rattle.iso_model.specs.declared.kinds.Setting.TheVariants as setting
 use Rattle.iso_model.specs.declared.kinds.Storage.TheVariants as storage
@@ -21,6 +21,7 @@ built_ins =
     ∷ (key (codes "call") 5, Call) ∷ (key (codes "call") 6, Call) ∷ (key (codes "call") 7, Call) ∷ (key (codes "call") 8, Call)
     ∷ (key (codes "catch") 3, Catch) ∷ (key (codes "throw") 1, Throw) ∷ (key (codes "halt") 0, Halt) ∷ (key (codes "halt") 1, HaltWith)
     ∷ (key (codes "once") 1, Once) ∷ (key (codes "\\+") 1, Not) ∷ (key (codes "findall") 3, Findall)
+    ∷ (key (codes "bagof") 3, Bagof) ∷ (key (codes "setof") 3, Setof) ∷ (key (codes "^") 2, Exists)
     ∷ (key (codes "=") 2, Library library.Unify) ∷ (key (codes "\\=") 2, Library library.Differ)
     ∷ (key (codes "unify_with_occurs_check") 2, Library library.Unify)
     ∷ (key (codes "var") 1, Library (library.Test test.Var)) ∷ (key (codes "nonvar") 1, Library (library.Test test.Nonvar))

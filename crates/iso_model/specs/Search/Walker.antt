@@ -3,7 +3,7 @@
 use Rattle.std.specs.Prelude.{ℕ, zero, suc, ◌+◌, ◌-◌, List, [], ◌∷◌, ◌++◌, length, drop, map, Bool, true, Option, Some, None, option_map, codes, ◌==◌, if◌then◌else◌}
 use Rattle.iso_ops.specs.declared.settings.Unknown.{Unknown}
 use Rattle.iso_ops.specs.declared.settings.Unknown.TheVariants as on_unknown
-use Rattle.iso_model.specs.Terms.Trees.{Tree, Variable, Name, Apply}
+use Rattle.iso_model.specs.Terms.Trees.{Tree, Variable, Name, Apply, row}
 use Rattle.iso_model.specs.Terms.Sizes.{size}
 use Rattle.iso_model.specs.Terms.Variables.{variables, variable_count}
 use Rattle.iso_model.specs.Terms.Substitutions.{Subst, apply, compose}
@@ -13,8 +13,10 @@ use Rattle.iso_model.specs.Terms.Lists.{list_of}
 use Rattle.iso_model.specs.Search.Bodies.{Body, Cut, Run, And, Or, If, Choose, one, converted, body_term, map_body, is_true}
 use Rattle.iso_model.specs.Search.Databases.{Clause, Key, key, key_of, clauses_at, has_clause, without_clause}
 pub use Rattle.iso_model.specs.Search.Worlds.{World, first_world}
-use Rattle.iso_model.specs.Search.BuiltIns.{Reply, Fails, Succeeds, Equates, EquatesCopy, Raises, Calls, CallsOnce, Refutes, Repeats, Catches, Gathers, Halts, AsksWorld, Writes, built_in, reply}
+use Rattle.iso_model.specs.Search.BuiltIns.{Reply, Fails, Succeeds, Equates, EquatesCopy, Raises, Calls, CallsOnce, Refutes, Repeats, Catches, Gathers, Halts, AsksWorld, Writes, built_in, reply, Grouping, Collecting, AsList, InGroups}
 use Rattle.iso_model.specs.Search.Errors.{type_error_callable, existence_error}
+use Rattle.iso_model.specs.Search.Groups.{groups_of, is_solution, witnesses, items, collection}
+use Rattle.iso_model.specs.Search.Library.{list_made}
 use Rattle.iso_model.specs.Search.Settlements.{Settled, Refuses, Changes, Offers, Offer, Reference}
 use Rattle.iso_model.specs.declared.built_ins.BuiltIn.{BuiltIn}
 
@@ -23,7 +25,8 @@ use Rattle.iso_model.specs.declared.built_ins.BuiltIn.{BuiltIn}
 -- - CutTo: a cut back to a height. Fail: failure.
 -- - Leave: the end of a catch's goal. Its alternative stands at this height.
 -- - Raise: a ball that is thrown. Meet: a ball that is to be caught by this catcher.
--- - Gather: the end of the goal of a findall/3, with the template. The alternative that gathers stands at this height.
+-- - Gather: the end of the goal of a findall/3, bagof/3 or setof/3, with the template. The alternative that gathers
+--   stands at this height.
 pub data Member : Type 0 where
   Goal : (body : Body) → (mark : ℕ) → Member
   CutTo : (height : ℕ) → Member
@@ -37,16 +40,18 @@ pub data Member : Type 0 where
 -- - AsIs: its goals as they are. Again: the same, again and again.
 -- - Clauses: these clauses for this call.
 -- - Catching: nothing, since it is the entry of a catch.
--- - Gathering: what a findall/3 has gathered: the result, and the copies of its solutions so far. Their variables are
---   0, 1, .. up to this count.
+-- - Gathering: what was gathered: the copies of the solutions so far, and what they are for. Their variables are 0, 1, ..
+--   up to this count.
 -- - Offered: the rows of terms that the left one is still to be unified with.
+-- - Groups: groups of solutions of a bagof/3 or setof/3, each a solution that is still to come.
 pub data Left : Type 0 where
   AsIs : Left
   Again : Left
   Clauses : (call : Tree) → (clauses : List Clause) → Left
   Catching : (catcher : Tree) → (recovery : Tree) → Left
-  Gathering : (result : Tree) → (copies : List Tree) → (count : ℕ) → Left
+  Gathering : (collecting : Collecting) → (copies : List Tree) → (count : ℕ) → Left
   Offered : (left : Tree) → (rights : List Offer) → Left
+  Groups : (by : Grouping) → (groups : List (List Tree)) → Left
 
 -- An alternative: the goals, the substitution, the next number and what was built, as they were when it was made, and
 -- what is left to be tried (7.7.8).
@@ -236,10 +241,59 @@ with_copy made t s = record s { next = s.next + variable_count t; built = s.buil
 abbrev pub equated_copy : ℕ → Tree → Tree → List Member → State → State
 equated_copy made a b rest s = equated (under s.subst (unifier_of a (apply s.subst (copy_from b s.next)))) rest (with_copy made b s)
 
+-- The result is unified with the list of these terms. It counts what a list of parts does, and 1 for the result, an
+-- argument (own).
+abbrev pub list_met : Tree → List Tree → List Member → State → State
+list_met result ts rest s = equated (under s.subst (unifier_of (apply s.subst result) (list_of ts))) rest (record s { built = s.built + (1 + list_made (length ts)) })
+
+-- The witness was unified with those of a group of solutions, or not; then the result comes, for their items as they
+-- are now.
+abbrev pub witnessed : Option Subst → Grouping → Tree → List Member → State → State
+witnessed None by solutions rest s = fails s
+witnessed (Some u) by solutions rest s = list_met by.result (collection by.sorts (items (apply u solutions))) rest (record s { subst = u })
+
+-- the witness, once for each of these
+abbrev pub repeated : Tree → List Tree → Tree
+repeated w ts = row (map (λ t. w) ts)
+
+-- A group's list of solutions, with these variables, comes to this: the witness is unified with each of theirs.
+abbrev pub met_group : Grouping → Tree → List Member → State → State
+met_group by solutions rest s = witnessed (under s.subst (unifier_of (repeated by.witness (witnesses solutions)) (row (witnesses solutions)))) by solutions rest s
+
+-- A group is tried: a copy of the list of its solutions, whose variables are numbered from the next number on. It
+-- counts its size (own).
+abbrev pub tried_group : Grouping → List Tree → List Member → State → State
+tried_group by g rest s = met_group by (apply s.subst (copy_from (list_of g) s.next)) rest (with_copy (size (list_of g)) (list_of g) s)
+
+-- the groups behind the first are one alternative, where there are any
+abbrev pub with_groups : Grouping → List (List Tree) → List Member → State → State
+with_groups by [] rest s = s
+with_groups by (g ∷ gs) rest s = pushed rest (Groups by (g ∷ gs)) s
+
+-- the groups are tried in their order
+abbrev pub grouped : Grouping → List (List Tree) → List Member → State → State
+grouped by [] rest s = fails s
+grouped by (g ∷ gs) rest s = tried_group by g rest (with_groups by gs rest s)
+
+-- All solutions were gathered. The result of a findall/3 is unified with a copy of the list of the copies (8.10.1),
+-- which counts its size (own).
+abbrev pub collected : Collecting → List Tree → List Member → State → State
+collected (AsList result) copies rest s = equated_copy (size (list_of copies)) result (list_of copies) rest s
+collected (InGroups by) copies rest s = grouped by (groups_of copies) rest s
+
+-- The template of bagof/3 and setof/3, a pair of the witness and an argument, is made before the alternative that
+-- gathers (own).
+abbrev pub built_with : Collecting → ℕ → ℕ
+built_with (AsList result) n = n
+built_with (InGroups by) n = n + (3 + size by.witness)
+
+abbrev pub with_template : Collecting → State → State
+with_template collecting s = record s { built = built_with collecting s.built }
+
 -- A goal of a built-in comes to this. A copy counts 1 more than its size, for the argument that it is unified with
 -- (own). Where it runs a goal, a cut in that is one back to the height of the stack at its call. A catch's goal is
--- run, or its error raised, inside the catch: behind its alternative and before its end. The goal of a findall/3 is
--- run over an alternative that gathers.
+-- run, or its error raised, inside the catch: behind its alternative and before its end. The goal of a findall/3,
+-- bagof/3 or setof/3 is run over an alternative that gathers.
 abbrev pub replied : Reply → List Member → State → Outcome
 replied Fails rest s = Goes (fails s)
 replied Succeeds rest s = Goes (record s { list = rest })
@@ -250,8 +304,8 @@ replied (Refutes b) rest s =
     Goes (record (pushed rest AsIs (with_goal b s)) { list = Goal b (suc (length s.stack)) ∷ CutTo (length s.stack) ∷ Fail ∷ rest })
 replied Repeats rest s = Goes (record (pushed rest Again s) { list = rest })
 replied (Catches inside catcher recovery) rest s = replied inside (Leave (length s.stack) ∷ rest) (pushed rest (Catching catcher recovery) s)
-replied (Gathers template b result) rest s =
-    Goes (record (with_goal b (pushed rest (Gathering result [] 0) s)) { list = Goal b (suc (length s.stack)) ∷ Gather (length s.stack) template ∷ rest })
+replied (Gathers template b collecting) rest s =
+    Goes (record (with_goal b (pushed rest (Gathering collecting [] 0) (with_template collecting s))) { list = Goal b (suc (length s.stack)) ∷ Gather (length s.stack) template ∷ rest })
 replied (Halts status) rest s = Ends (Halted status) s.world
 replied (Equates made a b) rest s = Goes (equated (under s.subst (unifier_of a b)) rest (record s { built = s.built + made }))
 replied (EquatesCopy a b) rest s = Goes (equated_copy (1 + size b) a b rest s)
@@ -259,15 +313,14 @@ replied (AsksWorld settles) rest s = Goes (settled (settles s.next s.world) rest
 replied (Writes bytes) rest s = written (bytes s.world.operators) rest s
 
 -- What is left at an alternative is tried. A further solution of `repeat` takes a step (8.15.3; that it does is own).
--- Where the goal of a findall/3 has no further solution, the result is unified with a copy of the list of the copies
--- (8.10.1), which counts its size (own).
 abbrev pub retried : Left → State → Outcome
 retried AsIs s = Goes s
 retried Again s = paid s.steps s (Goes (pushed s.list Again s))
 retried (Clauses call cs) s = Goes (tried call cs s.list s)
 retried (Catching catcher recovery) s = Goes (fails s)
-retried (Gathering result copies count) s = Goes (equated_copy (size (list_of copies)) result (list_of copies) s.list s)
+retried (Gathering collecting copies count) s = Goes (collected collecting copies s.list s)
 retried (Offered left rights) s = Goes (offered left rights s.list s)
+retried (Groups by groups) s = Goes (grouped by groups s.list s)
 
 -- failure goes on with the newest alternative; where there is none the search ends
 abbrev pub backtracked : List Alternative → State → Outcome
@@ -314,9 +367,12 @@ abbrev pub meets : Tree → Tree → Tree → List Member → State → State
 meets ball catcher recovery rest s =
     met (under s.subst (unifier_of (apply s.subst catcher) (apply s.subst (copy_from ball s.next)))) ball recovery rest (record s { built = s.built + size ball })
 
--- a copy of this solution comes behind those that the alternative has gathered, and its variables behind theirs
+-- A copy of this solution comes behind those that the alternative has gathered, and its variables behind theirs. Those
+-- that come in groups are pairs.
 abbrev pub gathered : Left → Tree → Left
-gathered (Gathering result copies count) t = Gathering result (copies ++ copy_from t count ∷ []) (count + variable_count t)
+gathered (Gathering (AsList result) copies count) t = Gathering (AsList result) (copies ++ copy_from t count ∷ []) (count + variable_count t)
+gathered (Gathering (InGroups by) copies count) t =
+    if is_solution t then Gathering (InGroups by) (copies ++ copy_from t count ∷ []) (count + variable_count t) else Gathering (InGroups by) copies count
 gathered left t = left
 
 -- so at the alternative that stands at this height

@@ -21,6 +21,7 @@ use Rattle.iso_model.specs.Terms.Sizes.{size}
 use Rattle.iso_model.specs.Terms.Unification.{unifier_of}
 use Rattle.iso_model.specs.Terms.Variables.{variable_count}
 use Rattle.iso_model.specs.Terms.Lists.{list_of}
+use Rattle.iso_model.specs.Search.Replies.{AsList}
 use Rattle.iso_model.specs.Search.Walker.{State, Member, Goal, Gather, Alternative, Gathering, pushed, equated, with_copy, under, step, Goes}
 use Rattle.iso_model.proofs.Search.CallLemmas.{unify_found, unify_none}
 use Rattle.iso_lib_core.specs.Replies.{UnifiesCopy, MeetsCopy}
@@ -63,19 +64,19 @@ module _ {S L W M K P C N B O : Type 0} (g : Ghosts S W M) (l : lists.Ghosts L S
 
     -- nothing was gathered yet
     pub nothing_gathered : (w : W) (got : Gathered) → (g.present e.store).holds w ≡ true → meaning (g.present e.store) w ≡ result → copies_of got ≡ [] → got.variables ≡ 0
-        → HasLeft (AreLeft (own_of l) (g.names e.store) e.db) (l.call (g.present e.store) e.lists (l.whole e.lists)) (g.present e.store) (left.Gathering w got) (record { list = s.list; subst = s.subst; next = s.next; built = s.built; left = Gathering result [] 0 })
+        → HasLeft (AreLeft (own_of l) (g.names e.store) e.db) (l.call (g.present e.store) e.lists (l.whole e.lists)) (g.present e.store) (left.Gathering w got) (record { list = s.list; subst = s.subst; next = s.next; built = s.built; left = Gathering (AsList result) [] 0 })
     nothing_gathered w got holds value none count = record {
       holds = holds;
-      is = (λ i. Gathering (sym value i) (sym none i) (sym count i));
+      is = (λ i. Gathering (AsList (sym value i)) (sym none i) (sym count i));
       fits = ap (λ (ts : List Tree). arities_fit (list_of ts)) none;
     }
 
-    pub finds_as : (new : Search S L W M K P C N B O) (n built : ℕ) (b : Body) (t : Tree) → n ≡ length e.choices.items → IsEngine g l new (record (pushed s.list (Gathering result [] 0) s) { list = Goal b (n + 1) ∷ Gather n t ∷ s.list; built = built })
+    pub finds_as : (new : Search S L W M K P C N B O) (n built : ℕ) (b : Body) (t : Tree) → n ≡ length e.choices.items → IsEngine g l new (record (pushed s.list (Gathering (AsList result) [] 0) s) { list = Goal b (n + 1) ∷ Gather n t ∷ s.list; built = built })
         → IsEngine g l new (record (finding b t result s) { built = built })
     finds_as new n built b t many is =
         let next : n + 1 ≡ suc n = omega arith in
-        subst (λ (k : ℕ). IsEngine g l new (record (pushed s.list (Gathering result [] 0) s) { list = Goal b (suc k) ∷ Gather k t ∷ s.list; built = built })) (height_is g l e s place n h.ahead many)
-        (subst (λ (k : ℕ). IsEngine g l new (record (pushed s.list (Gathering result [] 0) s) { list = Goal b k ∷ Gather n t ∷ s.list; built = built })) next is)
+        subst (λ (k : ℕ). IsEngine g l new (record (pushed s.list (Gathering (AsList result) [] 0) s) { list = Goal b (suc k) ∷ Gather k t ∷ s.list; built = built })) (height_is g l e s place n h.ahead many)
+        (subst (λ (k : ℕ). IsEngine g l new (record (pushed s.list (Gathering (AsList result) [] 0) s) { list = Goal b k ∷ Gather n t ∷ s.list; built = built })) next is)
 
   -- ---- no further solution
 
@@ -133,11 +134,11 @@ module _ {S L W M K P C N B O : Type 0} (g : Ghosts S W M) (l : lists.Ghosts L S
   -- ---- the engine's move there
 
   module _ (e new : Search S L W M K P C N B O) (s : State) (r : Represents g l e s) (a : Alternative) (below : List Alternative) (doing : e.now ≡ now.Failing) (stack : r.own.stack ≡ a ∷ below) (value : Tree) (copies : List Tree) (count : ℕ)
-      (left : a.left ≡ Gathering value copies count) where
+      (left : a.left ≡ Gathering (AsList value) copies count) where
     found_to : step r.own ≡ Goes (found value copies (went_back a below r.own))
     found_to =
         let first = next_is g l e r.own now.Failing doing r.engine in
-        back_step r.own first.0 a below (Gathering value copies count) first.1 stack left
+        back_step r.own first.0 a below (Gathering (AsList value) copies count) first.1 stack left
 
     pub found_on : IsEngine g l new (found value copies (went_back a below r.own)) → IsAwake (phase_of new.now) → Moves g l move.Goes s new
     found_on engine awake = goes g l e new s r (found value copies (went_back a below r.own)) found_to engine awake

@@ -20,12 +20,11 @@ use Rattle.std.specs.Prelude.{option_map}
 use Rattle.std.specs.List.{slice_get}
 use Rattle.iso_model.specs.Search.Walker.{State, Member, Alternative, Goes, cut_back, shortened, gathered_at, fails, query_size, step, Leave, Gather, Goal, CutTo}
 use Rattle.iso_model.specs.Search.Bodies.{Cut}
-use Rattle.iso_search_core.specs.Solutions.{Gains}
+use Rattle.iso_search_core.specs.Solutions.{Change, Gains}
 use Rattle.iso_search_core.specs.declared.lists.Lists as lists
 use Rattle.iso_search_core.specs.declared.choices.Choice as kept
 use Rattle.iso_search_core.specs.declared.nows.Now.TheVariants as now
 use Rattle.iso_search_core.specs.Gathering.{SameCopies, ChangesAt}
-use Rattle.iso_search_core.specs.declared.solutions.Gathered.{Gathered}
 use Rattle.iso_search_core.proofs.FittingLemmas.{fits_fewer}
 use Rattle.iso_search_core.proofs.GatheringLemmas.{choices_gain, choices_same, room_gathered, changed_costs}
 use Rattle.iso_search_core.proofs.StandingLemmas.{lower, choices_length}
@@ -165,7 +164,7 @@ module _ {S L W M K P C N B O : Type 0} (l : lists.Ghosts L S K P C N B O W M) w
   pub failing_falls : (e : Search S L W M K P C N B O) (first : N) → e.now ≡ now.Running first → 0 < l.first_cost e.lists first → weight l (record e { now = now.Failing }) < weight l e
   failing_falls e first doing less = let old = running_cost e first doing in falls_less l e (record e { now = now.Failing }) refl (omega (arith, old, less))
 
-  pub gather_falls : (e : Search S L W M K P C N B O) (first : N) (height : ℕ) (choices : Vec (kept.Choice W M K P C) Global) (R : Gathered → Gathered → Type 0) → e.now ≡ now.Running first → 0 < l.first_cost e.lists first → ChangesAt R height e.choices.items choices.items
+  pub gather_falls : (e : Search S L W M K P C N B O) (first : N) (height : ℕ) (choices : Vec (kept.Choice W M K P C) Global) (R : Change) → e.now ≡ now.Running first → 0 < l.first_cost e.lists first → ChangesAt R height e.choices.items choices.items
       → weight l (record e { choices = choices; now = now.Failing }) < weight l e
   gather_falls e first height choices R doing less change =
       let old = running_cost e first doing in

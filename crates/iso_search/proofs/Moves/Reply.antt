@@ -40,6 +40,7 @@ use Rattle.iso_model.specs.Search.Settings.{setting_settled}
 use Rattle.iso_model.specs.Search.Storages.{storage_settled}
 use Rattle.iso_model.specs.declared.limit.Limit.TheVariants as limit
 use Rattle.iso_model.specs.declared.pauses.Pause.TheVariants as pause
+use Rattle.iso_model.specs.Search.Replies.{AsList}
 use Rattle.iso_model.specs.Search.Walker.{State, World, Member, Goal, CutTo, Fail, Leave, Raise, Goes, AsIs, Again, Gather, Catching, Gathering, Halted, Outcome, idle, fails, with_goal, pushed, settled, step}
 use Rattle.iso_model.specs.Search.Walker as walker
 use Rattle.iso_model.proofs.Search.RunLaws.Values.{IsOwnBody, IsOwnReply, reply_own}
@@ -104,11 +105,11 @@ module _ {S L W M K P C N B O : Type 0} (g : Ghosts S W M) (l : lists.Ghosts L S
     same_behind = of_value.taken_same g l o s r.same (first_value g l e s w rest took.first r) (step_at g l took s r)
 
     -- the goal's word stands for what it did
-    goal_same : g.present mid.store ≡ g.present e.store → meaning (g.present mid.store) w ≡ t
+    pub goal_same : g.present mid.store ≡ g.present e.store → meaning (g.present mid.store) w ≡ t
     goal_same same = ap (λ (q : Present W). meaning q w) same
 
     -- the goal has as many arguments as its built-in
-    arity_same : {x : BuiltIn} → g.present mid.store ≡ g.present e.store → b ≡ x → HasArity x (arity (meaning (g.present mid.store) w))
+    pub arity_same : {x : BuiltIn} → g.present mid.store ≡ g.present e.store → b ≡ x → HasArity x (arity (meaning (g.present mid.store) w))
     arity_same {x} same is =
         subst (λ (q : Present W). HasArity x (arity (meaning q w))) (sym same) (subst (λ (y : BuiltIn). HasArity y (arity t)) is (built_in_arguments t b took.is_own))
 
@@ -144,11 +145,11 @@ module _ {S L W M K P C N B O : Type 0} (g : Ghosts S W M) (l : lists.Ghosts L S
     list_took words = took.behind a.at.behind words a.at.ahead.chain
 
     -- no choice may come any more, and the engine is spent
-    full_now : (new : Search S L W M K P C N B O) (p : Pause) → (p ≡ pause.FramesFull) × (new.now ≡ now.Spent limit.Frames) × Keeps g l new o.world o.stack → Moves g l (move.Pauses p) s new
+    pub full_now : (new : Search S L W M K P C N B O) (p : Pause) → (p ≡ pause.FramesFull) × (new.now ≡ now.Spent limit.Frames) × Keeps g l new o.world o.stack → Moves g l (move.Pauses p) s new
     full_now new p was = rw was.0 (spent_stands g l limit.Frames new.now new s (ap phase_of was.1) (stops_here g l new o s r.same was.2), ap phase_of was.1)
 
     -- no choice may come any more, and the search comes to one
-    over_by : (v : State) → step o ≡ Goes v → length v.stack ≡ suc (length o.stack) → mid.limit ≤ length mid.choices.items → ComesOver e.limit s
+    pub over_by : (v : State) → step o ≡ Goes v → length v.stack ≡ suc (length o.stack) → mid.limit ≤ length mid.choices.items → ComesOver e.limit s
     over_by v goes_to longer full =
         let many = choices_length l r.engine.choices in
         comes_over g l e s r v e.limit goes_to longer (let limited = within_same full in omega (arith, many, limited))
@@ -182,11 +183,11 @@ module _ {S L W M K P C N B O : Type 0} (g : Ghosts S W M) (l : lists.Ghosts L S
 
     -- ---- a goal is run
 
-    around : Around o o
+    pub around : Around o o
     around = around_own o s (Run a.term) a.mark a.at.behind a.at.list r.same
 
     -- what a reply is made of are values
-    own_reply : (x : Reply) → reply b t ≡ x → IsOwnReply o.subst x
+    pub own_reply : (x : Reply) → reply b t ≡ x → IsOwnReply o.subst x
     own_reply x is =
         let value : IsValue o.subst t = subst (λ (v : Tree). IsValue o.subst v) a.value (value_is o.subst a.term around.agree.twice) in
         subst (λ (y : Reply). IsOwnReply o.subst y) is (reply_own o.subst b t value)
@@ -401,7 +402,7 @@ module _ {S L W M K P C N B O : Type 0} (g : Ghosts S W M) (l : lists.Ghosts L S
 
     -- ---- for all of its solutions
 
-    module _ (template result : Tree) (c : Body) (is : reply b t ≡ Gathers template c result) (same : g.present mid.store ≡ g.present e.store) where
+    module _ (template result : Tree) (c : Body) (is : reply b t ≡ Gathers template c (AsList result)) (same : g.present mid.store ≡ g.present e.store) where
       -- the state behind the goal
       abbrev pub behind_findall : State
       behind_findall = behind o.built
@@ -431,31 +432,31 @@ module _ {S L W M K P C N B O : Type 0} (g : Ghosts S W M) (l : lists.Ghosts L S
 
       -- the state that the walker comes to
       abbrev pub walker_finds : State
-      walker_finds = record (pushed a.at.behind (Gathering result [] 0) behind_findall) { list = Goal c (suc (length o.stack)) ∷ Gather (length o.stack) template ∷ a.at.behind; built = (with_goal c o).built }
+      walker_finds = record (pushed a.at.behind (Gathering (AsList result) [] 0) behind_findall) { list = Goal c (suc (length o.stack)) ∷ Gather (length o.stack) template ∷ a.at.behind; built = (with_goal c o).built }
 
       finds_to : step o ≡ Goes walker_finds
       finds_to =
-          runs_to g l e s w rest took.first r (record (with_goal c (pushed a.at.behind (Gathering result [] 0) o)) { list = Goal c (suc (length o.stack)) ∷ Gather (length o.stack) template ∷ a.at.behind }) took.more
-          (own_goal t a.at.behind o b (Gathers template c result) took.is_own is)
+          runs_to g l e s w rest took.first r (record (with_goal c (pushed a.at.behind (Gathering (AsList result) [] 0) o)) { list = Goal c (suc (length o.stack)) ∷ Gather (length o.stack) template ∷ a.at.behind }) took.more
+          (own_goal t a.at.behind o b (Gathers template c (AsList result)) took.is_own is)
 
       pub finds_now : (new : Search S L W M K P C N B O) (m : Move) → FindsAll g l m new (template_of (g.present mid.store) w) (result_of (g.present mid.store) w) c behind_findall → Moves g l m s new
       finds_now new move.Goes was =
-          let own = own_reply (Gathers template c result) is in
+          let own = own_reply (Gathers template c (AsList result)) is in
           let body = was.1 in
           let value : apply o.subst was.0 ≡ apply o.subst template = was.2 ∙ (template_same ∙ sym own.0) in
           let engine = subst (λ (x : Tree). IsEngine g l new (record (finding body was.0 x behind_findall) { built = (with_goal c o).built })) result_same (was.4).0 in
           goes_as g l e new s r walker_finds (record (finding body was.0 result behind_findall) { built = (with_goal c o).built }) finds_to
-          (same_finding behind_findall body c was.0 template result (suc (length o.stack)) (length o.stack) (with_goal c o).built a.at.behind (was.3 ∙ sym own.1) value own.2 (around_steps o a.at.behind o.built n around)) engine (was.4).1
+          (same_finding behind_findall body c was.0 template (AsList result) (suc (length o.stack)) (length o.stack) (with_goal c o).built a.at.behind (was.3 ∙ sym own.1) value own.2 (around_steps o a.at.behind o.built n around)) engine (was.4).1
       finds_now new (move.Pauses p) was = full_now new p was
 
       pub find_stops : (new : Search S L W M K P C N B O)
-          → WasRefused g l new behind_findall (record (pushed behind_findall.list (Gathering (result_of (g.present mid.store) w) [] 0) behind_findall) { built = o.built + conversion_cells (solved_of (g.present mid.store) w) })
+          → WasRefused g l new behind_findall (record (pushed behind_findall.list (Gathering (AsList (result_of (g.present mid.store) w)) [] 0) behind_findall) { built = o.built + conversion_cells (solved_of (g.present mid.store) w) })
           → Refused g l new s
       find_stops new (inl remains) = refuses_here g l new o s r.same remains
       find_stops new (inr remains) =
           let few = converted_cells (solved_of (g.present mid.store) w) c solved_converted in
           refuses g l new o walker_finds s r.same finds_to (
-            subst (λ (x : Tree). Keeps g l new o.world (pushed a.at.behind (Gathering x [] 0) o).stack) result_same remains.0,
+            subst (λ (x : Tree). Keeps g l new o.world (pushed a.at.behind (Gathering (AsList x) [] 0) o).stack) result_same remains.0,
             fits_more g (g.present new.store) 0 (record o { built = o.built + conversion_cells (solved_of (g.present mid.store) w) }) walker_finds refl (omega (arith, few)) remains.1,
           )
 

@@ -2,7 +2,7 @@
 -- state that is alike another has no larger load. So an engine whose cells are within its own state's load, and were
 -- full, is in a piece of a walk that reaches a state with such a load.
 use Rattle.std.proofs.Common.{◌≡◌, ◌≤◌, ◌<◌, ◌+◌, ◌*◌, ℕ, zero, suc, List, [], ◌∷◌, true, false, Option, Some, None, refl, ap, arith, if◌then◌else◌, length}
-use Rattle.iso_model.specs.Terms.Trees.{Tree}
+use Rattle.iso_model.specs.Terms.Trees.{Tree, row}
 use Rattle.iso_model.specs.Terms.Sizes.{size}
 use Rattle.iso_model.specs.Terms.Substitutions.{Subst, apply}
 use Rattle.iso_model.specs.Terms.Unification.{unifier_of}
@@ -10,12 +10,14 @@ use Rattle.iso_model.specs.Terms.Copies.{copy_from, renamed}
 use Rattle.iso_model.specs.Terms.Lists.{list_of}
 use Rattle.iso_model.specs.Search.Bodies.{Body, Cut, Run, And, Or, If, Choose, body_term}
 use Rattle.iso_model.specs.Search.Databases.{Clause, Key, key_of, clauses_at}
-use Rattle.iso_model.specs.Search.BuiltIns.{Reply, Fails, Succeeds, Equates, EquatesCopy, Raises, Calls, CallsOnce, Refutes, Repeats, Catches, Gathers, Halts, AsksWorld, Writes, built_in, reply}
+use Rattle.iso_model.specs.Search.BuiltIns.{Reply, Fails, Succeeds, Equates, EquatesCopy, Raises, Calls, CallsOnce, Refutes, Repeats, Catches, Gathers, Halts, AsksWorld, Writes, built_in, reply, Grouping, Collecting, AsList, InGroups}
+use Rattle.iso_model.specs.Search.Groups.{groups_of, witnesses, items, collection}
+use Rattle.iso_model.specs.Search.Library.{list_made}
 use Rattle.iso_model.specs.declared.built_ins.BuiltIn.{BuiltIn}
 use Rattle.iso_ops.specs.declared.settings.Unknown.{Unknown}
 use Rattle.iso_ops.specs.declared.settings.Unknown.TheVariants as on_unknown
 use Rattle.iso_model.specs.Search.Settlements.{Settled, Refuses, Changes, Offers, Offer, Reference}
-use Rattle.iso_model.specs.Search.Walker.{State, World, Member, Leave, Alternative, Left, AsIs, Again, Clauses, Catching, Gathering, Offered, Outcome, Goes, Gives, Ends, query_size, load, arguments_size, body_size, clause_size, entered, under, with_others, tried, equated, taken, met_right, tried_right, is_there, with_rights, offered, settled, written, with_copy, replied, met, meets, retried, backtracked, unknown_called, called, selected, run_goal, run_value, step_goal, paid, fails, pushed, step}
+use Rattle.iso_model.specs.Search.Walker.{built_with, witnessed, repeated, tried_group, with_groups, grouped, collected, Groups, State, World, Member, Leave, Alternative, Left, AsIs, Again, Clauses, Catching, Gathering, Offered, Outcome, Goes, Gives, Ends, query_size, load, arguments_size, body_size, clause_size, entered, under, with_others, tried, equated, taken, met_right, tried_right, is_there, with_rights, offered, settled, written, with_copy, replied, met, meets, retried, backtracked, unknown_called, called, selected, run_goal, run_value, step_goal, paid, fails, pushed, step}
 use Rattle.iso_model.specs.Search.Runs.{Quiet, here, ComesAbove}
 use Rattle.iso_model.specs.Search.RunLaws.Counts.{Fits, FitsAt}
 use Rattle.iso_model.proofs.Search.RunLaws.SameLaws.{same_beside}
@@ -126,7 +128,7 @@ reply_made n w (CallsOnce b) = size (body_term b)
 reply_made n w (Refutes b) = size (body_term b)
 reply_made n w Repeats = 0
 reply_made n w (Catches inside catcher recovery) = reply_made n w inside
-reply_made n w (Gathers template b result) = size (body_term b)
+reply_made n w (Gathers template b collecting) = built_with collecting 0 + size (body_term b)
 reply_made n w (Halts status) = 0
 reply_made n w (Equates made a b) = made
 reply_made n w (EquatesCopy a b) = 1 + size b
@@ -153,7 +155,8 @@ replied_built (CallsOnce b) rest s = refl
 replied_built (Refutes b) rest s = refl
 replied_built Repeats rest s = omega arith
 replied_built (Catches inside catcher recovery) rest s = replied_built inside (Leave (length s.stack) ∷ rest) (pushed rest (Catching catcher recovery) s)
-replied_built (Gathers template b result) rest s = refl
+replied_built (Gathers template b (AsList result)) rest s = omega arith
+replied_built (Gathers template b (InGroups by)) rest s = omega arith
 replied_built (Halts status) rest s = tt
 replied_built (Equates made a b) rest s = equated_built (under s.subst (unifier_of a b)) rest (record s { built = s.built + made })
 replied_built (EquatesCopy a b) rest s = equated_built (under s.subst (unifier_of a (apply s.subst (copy_from b s.next)))) rest (with_copy (1 + size b) b s)
@@ -167,29 +170,70 @@ meets_built ball catcher recovery rest s = by_answer (under s.subst (unifier_of 
   by_answer None = refl
   by_answer (Some u) = refl
 
--- what is tried at an alternative counts so much more than the alternative had
-abbrev pub left_made : World → Left → ℕ
-left_made w AsIs = 0
-left_made w Again = 0
-left_made w (Clauses call []) = 0
-left_made w (Clauses call (c ∷ cs)) = clause_size c
-left_made w (Catching catcher recovery) = 0
-left_made w (Gathering result copies count) = size (list_of copies)
-left_made w (Offered left rights) = rows_made w rights
+-- what a group counts that is tried: its solutions, and the list of its items where the witness was unified
+abbrev pub witnessed_made : Option Subst → Grouping → Tree → ℕ
+witnessed_made None by solutions = 0
+witnessed_made (Some u) by solutions = 1 + list_made (length (collection by.sorts (items (apply u solutions))))
+
+abbrev pub met_made : Grouping → Tree → State → ℕ
+met_made by solutions s = witnessed_made (under s.subst (unifier_of (repeated by.witness (witnesses solutions)) (row (witnesses solutions)))) by solutions
+
+abbrev pub groups_made : Grouping → List (List Tree) → State → ℕ
+groups_made by [] s = 0
+groups_made by (g ∷ gs) s = size (list_of g) + met_made by (apply s.subst (copy_from (list_of g) s.next)) s
+
+witnessed_built : (o : Option Subst) (by : Grouping) (solutions : Tree) (rest : List Member) (s : State) → (witnessed o by solutions rest s).built ≡ s.built + witnessed_made o by solutions
+witnessed_built None by solutions rest s = omega arith
+witnessed_built (Some u) by solutions rest s =
+    let ts = collection by.sorts (items (apply u solutions)) in
+    equated_built (under u (unifier_of (apply u by.result) (list_of ts))) rest (record s { subst = u; built = s.built + (1 + list_made (length ts)) })
+
+group_built : (by : Grouping) (g : List Tree) (rest : List Member) (s : State)
+    → (tried_group by g rest s).built ≡ s.built + (size (list_of g) + met_made by (apply s.subst (copy_from (list_of g) s.next)) s)
+group_built by g rest s =
+    let solutions = apply s.subst (copy_from (list_of g) s.next) in
+    let o = under s.subst (unifier_of (repeated by.witness (witnesses solutions)) (row (witnesses solutions))) in
+    let more = witnessed_built o by solutions rest (with_copy (size (list_of g)) (list_of g) s) in
+    omega arith
+
+pub grouped_built : (by : Grouping) (gs : List (List Tree)) (rest : List Member) (s : State) → (grouped by gs rest s).built ≡ s.built + groups_made by gs s
+grouped_built by [] rest s = omega arith
+grouped_built by (g ∷ []) rest s = group_built by g rest s
+grouped_built by (g ∷ h ∷ gs) rest s = group_built by g rest (with_groups by (h ∷ gs) rest s)
+
+abbrev pub collected_made : Collecting → List Tree → State → ℕ
+collected_made (AsList result) copies s = size (list_of copies)
+collected_made (InGroups by) copies s = groups_made by (groups_of copies) s
+
+pub collected_built : (c : Collecting) (copies : List Tree) (rest : List Member) (s : State) → (collected c copies rest s).built ≡ s.built + collected_made c copies s
+collected_built (AsList result) copies rest s =
+    let list = list_of copies in
+    equated_built (under s.subst (unifier_of result (apply s.subst (copy_from list s.next)))) rest (with_copy (size list) list s)
+collected_built (InGroups by) copies rest s = grouped_built by (groups_of copies) rest s
+
+-- what is tried at an alternative, in this state, counts so much more than the alternative had
+abbrev pub left_made : State → Left → ℕ
+left_made s AsIs = 0
+left_made s Again = 0
+left_made s (Clauses call []) = 0
+left_made s (Clauses call (c ∷ cs)) = clause_size c
+left_made s (Catching catcher recovery) = 0
+left_made s (Gathering collecting copies count) = collected_made collecting copies s
+left_made s (Offered left rights) = rows_made s.world rights
+left_made s (Groups by groups) = groups_made by groups s
 
 again_built : (n : ℕ) (s : State) → HasBuilt (s.built + 0) (paid n s (Goes (pushed s.list Again s)))
 again_built zero s = tt
 again_built (suc n) s = omega arith
 
-pub retried_built : (l : Left) (s : State) → HasBuilt (s.built + left_made s.world l) (retried l s)
+pub retried_built : (l : Left) (s : State) → HasBuilt (s.built + left_made s l) (retried l s)
 retried_built AsIs s = omega arith
 retried_built Again s = again_built s.steps s
 retried_built (Clauses call []) s = omega arith
 retried_built (Clauses call (c ∷ cs)) s = tried_built call c cs s.list s
 retried_built (Catching catcher recovery) s = omega arith
-retried_built (Gathering result copies count) s =
-    let list = list_of copies in
-    equated_built (under s.subst (unifier_of result (apply s.subst (copy_from list s.next)))) s.list (with_copy (size list) list s)
+retried_built (Gathering collecting copies count) s = collected_built collecting copies s.list s
+retried_built (Groups by groups) s = grouped_built by groups s.list s
 retried_built (Offered left rights) s = offered_built left rights s.list s
 
 -- ---- what each step counts
@@ -250,9 +294,13 @@ goal_built (Or a b) mark rest s = omega arith
 goal_built (If c t) mark rest s = omega arith
 goal_built (Choose c t e) mark rest s = omega arith
 
+-- the state of an alternative
+abbrev pub restored : Alternative → List Alternative → State → State
+restored a below s = record s { list = a.list; subst = a.subst; next = a.next; built = a.built; stack = below }
+
 -- failure takes the counts back, and counts what is tried next
-pub back_built : (a : Alternative) (below : List Alternative) (s : State) → HasBuilt (a.built + left_made s.world a.left) (backtracked (a ∷ below) s)
-back_built a below s = retried_built a.left (record s { list = a.list; subst = a.subst; next = a.next; built = a.built; stack = below })
+pub back_built : (a : Alternative) (below : List Alternative) (s : State) → HasBuilt (a.built + left_made (restored a below s) a.left) (backtracked (a ∷ below) s)
+back_built a below s = retried_built a.left (restored a below s)
 
 -- ---- for an engine's relation
 

@@ -2,7 +2,7 @@
 use Rattle.std.proofs.Common.{◌≡◌, ℕ, zero, suc, ◌+◌, ◌-◌, ◌≤◌, List, [], ◌∷◌, Bool, true, false, Option, Some, None, length, drop, refl, sym, ap, ◌∙◌, subst, arith, ◌==◌, if◌then◌else◌}
 use Rattle.iso_ops.specs.declared.settings.Unknown.{Unknown}
 use Rattle.iso_ops.specs.declared.settings.Unknown.TheVariants as on_unknown
-use Rattle.iso_model.specs.Terms.Trees.{Tree, Variable}
+use Rattle.iso_model.specs.Terms.Trees.{Tree, Variable, row}
 use Rattle.iso_model.specs.Terms.Sizes.{size}
 use Rattle.iso_model.specs.Terms.Substitutions.{Subst, apply}
 use Rattle.iso_model.specs.Terms.Unification.{unifier_of}
@@ -10,10 +10,12 @@ use Rattle.iso_model.specs.Terms.Copies.{copy_from, renamed}
 use Rattle.iso_model.specs.Terms.Lists.{list_of}
 use Rattle.iso_model.specs.Search.Bodies.{Body, Cut, Run, And, Or, If, Choose, map_body, is_true, converted}
 use Rattle.iso_model.specs.Search.Databases.{Clause, Key, key_of, clauses_at}
-use Rattle.iso_model.specs.Search.BuiltIns.{Reply, Fails, Succeeds, Equates, EquatesCopy, Raises, Calls, CallsOnce, Refutes, Repeats, Catches, Gathers, Halts, AsksWorld, Writes, built_in, reply}
+use Rattle.iso_model.specs.Search.BuiltIns.{Reply, Fails, Succeeds, Equates, EquatesCopy, Raises, Calls, CallsOnce, Refutes, Repeats, Catches, Gathers, Halts, AsksWorld, Writes, built_in, reply, Grouping, Collecting, AsList, InGroups}
+use Rattle.iso_model.specs.Search.Groups.{groups_of, witnesses, items, collection}
+use Rattle.iso_model.specs.Search.Library.{list_made}
 use Rattle.iso_model.specs.Search.Settlements.{Settled, Refuses, Changes, Offers, Offer, Reference}
 use Rattle.iso_model.specs.declared.built_ins.BuiltIn.{BuiltIn}
-use Rattle.iso_model.specs.Search.Walker.{State, World, Member, Goal, CutTo, Fail, Leave, Raise, Meet, Gather, Left, AsIs, Again, Clauses, Catching, Gathering, Offered, Alternative, Outcome, Goes, Gives, Ends, charged, paid, before, entered, under, with_others, tried, retried, backtracked, unknown_called, written, called, equated, with_rights, taken, met_right, tried_right, is_there, offered, settled, replied, selected, run_goal, run_value, caught_at, caught, thrown, met, gathered, gathered_at, clause_size, shortened, cut_back, pushed, step_goal, step_list, step, opening, started, fails, with_copy}
+use Rattle.iso_model.specs.Search.Walker.{witnessed, repeated, tried_group, with_groups, grouped, collected, Groups, State, World, Member, Goal, CutTo, Fail, Leave, Raise, Meet, Gather, Left, AsIs, Again, Clauses, Catching, Gathering, Offered, Alternative, Outcome, Goes, Gives, Ends, charged, paid, before, entered, under, with_others, tried, retried, backtracked, unknown_called, written, called, equated, with_rights, taken, met_right, tried_right, is_there, offered, settled, replied, selected, run_goal, run_value, caught_at, caught, thrown, met, gathered, gathered_at, clause_size, shortened, cut_back, pushed, step_goal, step_list, step, opening, started, fails, with_copy}
 use Rattle.iso_model.specs.Search.RunLaws.Marks.{Under, all, above, IsCatching, Marked, done, goal, cut, failing, leaving, raising, meeting, gathering, Stacked, none, more, IsMarked, KeepsMarked}
 
 -- ---- stacks
@@ -69,6 +71,7 @@ gathered_catching Again t h = absurd h
 gathered_catching (Clauses call cs) t h = absurd h
 gathered_catching (Gathering result copies count) t h = absurd h
 gathered_catching (Offered left rights) t h = absurd h
+gathered_catching (Groups by groups) t h = absurd h
 
 gathered_entry : (height : ℕ) (t : Tree) (a : Alternative) (here : Bool) → IsCatching a.left → IsCatching (if here then record a { left = gathered a.left t } else a).left
 gathered_entry height t a true h = gathered_catching a.left t h
@@ -174,13 +177,35 @@ settled_marked (Refuses error) rest s marked k = record { list = raising all mar
 settled_marked (Changes made w) rest s marked k = record { list = marked; stack = k }
 settled_marked (Offers left rights) rest s marked k = offered_marked left rights rest s marked k
 
+-- groups of solutions
+witnessed_marked : (u : Option Subst) (by : Grouping) (solutions : Tree) (rest : List Member) (s : State) → Marked s.stack rest → Stacked s.stack → IsMarked (witnessed u by solutions rest s)
+witnessed_marked None by solutions rest s marked k = fails_marked s k
+witnessed_marked (Some u) by solutions rest s marked k =
+    let ts = collection by.sorts (items (apply u solutions)) in
+    equated_marked (under u (unifier_of (apply u by.result) (list_of ts))) rest (record s { subst = u; built = s.built + (1 + list_made (length ts)) }) marked k
+
+group_marked : (by : Grouping) (g : List Tree) (rest : List Member) (s : State) → Marked s.stack rest → Stacked s.stack → IsMarked (tried_group by g rest s)
+group_marked by g rest s marked k =
+    let solutions = apply s.subst (copy_from (list_of g) s.next) in
+    witnessed_marked (under s.subst (unifier_of (repeated by.witness (witnesses solutions)) (row (witnesses solutions)))) by solutions rest (with_copy (size (list_of g)) (list_of g) s) marked k
+
+grouped_marked : (by : Grouping) (gs : List (List Tree)) (rest : List Member) (s : State) → Marked s.stack rest → Stacked s.stack → IsMarked (grouped by gs rest s)
+grouped_marked by [] rest s marked k = fails_marked s k
+grouped_marked by (g ∷ []) rest s marked k = group_marked by g rest s marked k
+grouped_marked by (g ∷ h ∷ gs) rest s marked k = group_marked by g rest (with_groups by (h ∷ gs) rest s) (marked_on (above all) marked) (more marked k)
+
+collected_marked : (c : Collecting) (copies : List Tree) (rest : List Member) (s : State) → Marked s.stack rest → Stacked s.stack → IsMarked (collected c copies rest s)
+collected_marked (AsList result) copies rest s marked k =
+    equated_marked (under s.subst (unifier_of result (apply s.subst (copy_from (list_of copies) s.next)))) rest (with_copy (size (list_of copies)) (list_of copies) s) marked k
+collected_marked (InGroups by) copies rest s marked k = grouped_marked by (groups_of copies) rest s marked k
+
 retried_marked : (l : Left) (s : State) → Marked s.stack s.list → Stacked s.stack → KeepsMarked (retried l s)
 retried_marked AsIs s marked k = record { list = marked; stack = k }
 retried_marked Again s marked k = paid_marked s.steps s (Goes (pushed s.list Again s)) (record { list = marked_on (above all) marked; stack = more marked k })
 retried_marked (Clauses call cs) s marked k = tried_marked call cs s.list s marked k
 retried_marked (Catching catcher recovery) s marked k = fails_marked s k
-retried_marked (Gathering result copies count) s marked k =
-    equated_marked (under s.subst (unifier_of result (apply s.subst (copy_from (list_of copies) s.next)))) s.list (with_copy (size (list_of copies)) (list_of copies) s) marked k
+retried_marked (Gathering collecting copies count) s marked k = collected_marked collecting copies s.list s marked k
+retried_marked (Groups by groups) s marked k = grouped_marked by groups s.list s marked k
 retried_marked (Offered left rights) s marked k = offered_marked left rights s.list s marked k
 
 backtracked_marked : (stack : List Alternative) (s : State) → Stacked stack → KeepsMarked (backtracked stack s)
@@ -239,6 +264,7 @@ caught_at_marked Again a below ball s o k other = other
 caught_at_marked (Clauses call cs) a below ball s o k other = other
 caught_at_marked (Gathering result copies count) a below ball s o k other = other
 caught_at_marked (Offered left rights) a below ball s o k other = other
+caught_at_marked (Groups by groups) a below ball s o k other = other
 
 caught_marked : (height : ℕ) (stack : List Alternative) (ball : Tree) (s : State) (o : Outcome) → Stacked stack → KeepsMarked o → KeepsMarked (caught height stack ball s o)
 caught_marked height [] ball s o k other = other

@@ -1,8 +1,8 @@
 -- What steps of states that are the same come to.
-use Rattle.std.proofs.Common.{codes, ◌≡◌, ℕ, zero, suc, ◌+◌, ◌≤◌, ◌-◌, List, [], ◌∷◌, Bool, true, false, Option, Some, None, map, length, drop, refl, sym, ap, ap₂, ◌∙◌, subst, arith, ◌==◌, if◌then◌else◌}
+use Rattle.std.proofs.Common.{codes, ◌≡◌, ℕ, zero, suc, ◌+◌, ◌≤◌, ◌-◌, List, [], ◌∷◌, ◌++◌, Bool, true, false, Option, Some, None, map, length, drop, refl, sym, ap, ap₂, ◌∙◌, subst, arith, ◌==◌, if◌then◌else◌}
 use Rattle.iso_ops.specs.declared.settings.Unknown.{Unknown}
 use Rattle.iso_ops.specs.declared.settings.Unknown.TheVariants as on_unknown
-use Rattle.iso_model.specs.Terms.Trees.{Tree, Variable}
+use Rattle.iso_model.specs.Terms.Trees.{Tree, Variable, More, row}
 use Rattle.iso_model.specs.Terms.Variables.{variables, variable_count}
 use Rattle.iso_model.specs.Terms.Sizes.{size}
 use Rattle.iso_model.specs.Terms.Substitutions.{Subst, apply, compose}
@@ -13,15 +13,18 @@ use Rattle.iso_model.specs.Terms.Copies.{copy_from, renamed, place_of}
 use Rattle.iso_model.specs.Terms.Lists.{list_of}
 use Rattle.iso_model.specs.Search.Bodies.{Body, Cut, Run, And, Or, If, Choose, one, map_body, is_true, body_term}
 use Rattle.iso_model.specs.Search.Databases.{Clause, Key, key_of, clauses_at}
-use Rattle.iso_model.specs.Search.BuiltIns.{Reply, Fails, Succeeds, Equates, EquatesCopy, Raises, Calls, CallsOnce, Refutes, Repeats, Catches, Gathers, Halts, AsksWorld, Writes, built_in, reply}
+use Rattle.iso_model.specs.Search.BuiltIns.{Reply, Fails, Succeeds, Equates, EquatesCopy, Raises, Calls, CallsOnce, Refutes, Repeats, Catches, Gathers, Halts, AsksWorld, Writes, built_in, reply, Grouping, Collecting, AsList, InGroups}
+use Rattle.iso_model.specs.Search.Groups.{groups_of, is_solution, witnesses, items, collection}
+use Rattle.iso_model.specs.Search.Library.{list_made}
 use Rattle.iso_model.specs.Search.Settlements.{Settled, Refuses, Changes, Offers, Offer}
 use Rattle.iso_model.specs.declared.built_ins.BuiltIn.{BuiltIn}
-use Rattle.iso_model.specs.Search.Walker.{query_size, State, World, Member, Goal, CutTo, Fail, Leave, Raise, Meet, Gather, Left, AsIs, Again, Clauses, Catching, Gathering, Offered, Alternative, Event, Ending, Outcome, Goes, Gives, Ends, Answered, NoMore, Budget, Uncaught, Halted, charged, paid, before, entered, under, tried_clause, with_others, tried, retried, backtracked, unknown_called, written, called, equated, with_rights, without_removed, taken, met_right, tried_right, is_there, offered, settled, with_goal, replied, selected, run_goal, run_value, caught_at, caught, thrown, met, meets, gathered, gathered_at, fails, values, clause_size, shortened, cut_back, pushed, step_goal, step_list, step, with_copy, equated_copy}
+use Rattle.iso_model.specs.Search.Walker.{query_size, State, World, Member, Goal, CutTo, Fail, Leave, Raise, Meet, Gather, Left, AsIs, Again, Clauses, Catching, Gathering, Offered, Groups, Alternative, Event, Ending, Outcome, Goes, Gives, Ends, Answered, NoMore, Budget, Uncaught, Halted, charged, paid, before, entered, under, tried_clause, with_others, tried, retried, backtracked, unknown_called, written, called, equated, with_rights, without_removed, taken, met_right, tried_right, is_there, offered, settled, with_goal, replied, selected, run_goal, run_value, caught_at, caught, thrown, met, meets, gathered, gathered_at, fails, values, clause_size, shortened, cut_back, pushed, step_goal, step_list, step, with_copy, equated_copy, built_with, with_template, list_met, witnessed, repeated, met_group, tried_group, with_groups, grouped, collected}
 use Rattle.iso_model.specs.Search.Runs.{Quiet, here, onward}
 use Rattle.iso_model.proofs.Search.RunLaws.SettingValues.{IsOwnSettled}
 use Rattle.iso_model.proofs.Search.RunLaws.Values.{IsOwnBody, IsOwnReply, reply_own}
-use Rattle.iso_model.proofs.Search.RunLaws.TermValues.{value_is, twice_on}
-use Rattle.iso_model.specs.Search.RunLaws.Sameness.{put, flat, SameList, no_member, same_goal, same_construct, same_cut, same_failure, same_leave, same_ball, same_meeting, same_gathering, Agree, SameStack, no_alternative, same_alternative, Beside, Around, Same, going, failing, IsOwnLeft, IsValue}
+use Rattle.iso_model.proofs.Search.RunLaws.TermValues.{value_is, twice_on, row_value, list_value}
+use Rattle.iso_model.proofs.Search.RunLaws.GroupValues.{witnesses_values, collection_values}
+use Rattle.iso_model.specs.Search.RunLaws.Sameness.{put, flat, SameList, no_member, same_goal, same_construct, same_cut, same_failure, same_leave, same_ball, same_meeting, same_gathering, Agree, SameStack, no_alternative, same_alternative, Beside, Around, Same, going, failing, IsOwnLeft, IsOwnCollecting, IsValue}
 
 -- ---- what was built
 
@@ -211,12 +214,18 @@ shortened_same {vs} {ws} {xs} {ys} height same =
 
 -- what is gathered leaves values
 gathered_own : (r : Subst) (l : Left) (v : Tree) → IsOwnLeft r l → IsOwnLeft r (gathered l v)
-gathered_own r (Gathering result copies count) v own = own
+gathered_own r (Gathering (AsList result) copies count) v own = own
+gathered_own r (Gathering (InGroups by) copies count) v own =
+    elim (is_solution v) as (λ b. IsOwnLeft r (if b then Gathering (InGroups by) (copies ++ copy_from v count ∷ []) (count + variable_count v) else Gathering (InGroups by) copies count)) [
+      | true ↦ own
+      | false ↦ own
+    ]
 gathered_own r AsIs v own = own
 gathered_own r Again v own = own
 gathered_own r (Clauses call cs) v own = own
 gathered_own r (Catching catcher recovery) v own = own
 gathered_own r (Offered left rights) v own = own
+gathered_own r (Groups by groups) v own = own
 
 -- the same copy comes to both
 gathered_first : {vs ws : List ℕ} (a b : Alternative) {xs ys : List Alternative} (v : Tree) (here : Bool) → Agree a.subst b.subst vs ws a.next → a.next ≡ b.next → a.built ≤ b.built → SameList a.subst b.subst (flat a.list) (flat b.list) → a.left ≡ b.left
@@ -365,6 +374,98 @@ pushed_goal_same s t left b xs ys ms ns own other at kept list =
 listed_same : (s t : State) (ms ns : List Member) (m n : ℕ) → m ≤ n → Around s t → SameList s.subst t.subst (flat ms) (flat ns) → Same (record s { list = ms; built = m }) (record t { list = ns; built = n })
 listed_same s t ms ns m n more at list = going (record { agree = at.agree; next = at.next; beside = record { stack = at.beside.stack; world = at.beside.world; steps = at.beside.steps; query = at.beside.query; built = more } }) list
 
+-- the template of a goal that gathers is made in both
+more_with : (c : Collecting) {m n : ℕ} → m ≤ n → built_with c m ≤ built_with c n
+more_with (AsList result) less = less
+more_with (InGroups by) less = grown (3 + size by.witness) less
+
+template_same : (s t : State) (c : Collecting) → Around s t → Around (with_template c s) (with_template c t)
+template_same s t c at = record {
+  agree = at.agree;
+  next = at.next;
+  beside = record { stack = at.beside.stack; world = at.beside.world; steps = at.beside.steps; query = at.beside.query; built = more_with c at.beside.built };
+}
+
+-- ---- groups of solutions
+
+-- the result is unified with the list of the items
+witnessed_same : (s t : State) (ms ns : List Member) (o : Option Subst) (by : Grouping) (a solutions : Tree) (g : Tree) (made : ℕ)
+    → AreValues s.subst t.subst by.result by.result → AreValues s.subst t.subst a (row (witnesses solutions)) → IsUnifierOf a (row (witnesses solutions)) o
+    → IsValue s.subst solutions → IsValue t.subst solutions → Around s t → SameList s.subst t.subst (flat ms) (flat ns)
+    → Same (witnessed (under s.subst o) by solutions ms (with_copy made g s)) (witnessed (under t.subst o) by solutions ns (with_copy made g t))
+witnessed_same s t ms ns None by a solutions g made own are is first second at list =
+    failing [] [] refl refl (record { stack = at.beside.stack; world = at.beside.world; steps = at.beside.steps; query = at.beside.query; built = grown made at.beside.built })
+witnessed_same s t ms ns (Some u) by a solutions g made own are is first second at list =
+    let r = compose s.subst u in
+    let q = compose t.subst u in
+    let y : State = record (with_copy made g s) { subst = r } in
+    let z : State = record (with_copy made g t) { subst = q } in
+    let agree = agree_more (variable_count g) (agree_on u a (row (witnesses solutions)) are is at.agree) in
+    let around : Around y z = record {
+      agree = agree;
+      next = ap (λ (n : ℕ). n + variable_count g) at.next;
+      beside = record { stack = at.beside.stack; world = at.beside.world; steps = at.beside.steps; query = at.beside.query; built = grown made at.beside.built };
+    } in
+    let result : apply r by.result ≡ apply q by.result = value_on s.subst t.subst u by.result by.result (own.first ∙ sym own.third) in
+    let here : apply r solutions ≡ apply q solutions = value_on s.subst t.subst u solutions solutions (first ∙ sym second) in
+    let ts = collection by.sorts (items (apply r solutions)) in
+    let values = list_value r ts (collection_values r by.sorts (apply r solutions) (value_is r solutions agree.twice)) in
+    let others = list_value q ts (collection_values q by.sorts (apply r solutions) (subst (λ (x : Tree). IsValue q x) (sym here) (value_is q solutions agree.other))) in
+    let both : AreValues r q (apply r by.result) (list_of ts) = record {
+      first = value_is r by.result agree.twice;
+      second = values;
+      third = subst (λ (x : Tree). IsValue q x) (sym result) (value_is q by.result agree.other);
+      fourth = others;
+    } in
+    let one = equated_same y z ms ns (1 + list_made (length ts)) (unifier_of (apply r by.result) (list_of ts)) (apply r by.result) (list_of ts) both (unifier_of_is (apply r by.result) (list_of ts)) around (list_on u list) in
+    subst (λ (x : Tree). Same (witnessed (Some r) by solutions ms (with_copy made g s)) (list_met by.result (collection by.sorts (items x)) ns z)) here
+    (subst (λ (x : Tree). Same (witnessed (Some r) by solutions ms (with_copy made g s)) (equated (under q (unifier_of x (list_of ts))) ns (record z { built = z.built + (1 + list_made (length ts)) }))) result one)
+
+repeated_value : (r : Subst) (w : Tree) (ts : List Tree) → IsValue r w → IsValue r (repeated w ts)
+repeated_value r w [] own = refl
+repeated_value r w (t ∷ ts) own = ap₂ More own (repeated_value r w ts own)
+
+group_same : (s t : State) (ms ns : List Member) (by : Grouping) (g : List Tree) → IsValue s.subst by.witness × IsValue s.subst by.result → IsValue t.subst by.witness × IsValue t.subst by.result
+    → Around s t → SameList s.subst t.subst (flat ms) (flat ns) → Same (tried_group by g ms s) (tried_group by g ns t)
+group_same s t ms ns by g own other at list =
+    let l = list_of g in
+    let c = apply s.subst (copy_from l s.next) in
+    let same : c ≡ apply t.subst (copy_from l t.next) = copied_same s.subst t.subst s.next l at.agree.beyond ∙ ap (λ (n : ℕ). apply t.subst (copy_from l n)) at.next in
+    let first : IsValue s.subst c = value_is s.subst (copy_from l s.next) at.agree.twice in
+    let second : IsValue t.subst c = subst (λ (z : Tree). IsValue t.subst z) (sym same) (value_is t.subst (copy_from l t.next) at.agree.other) in
+    let left = repeated by.witness (witnesses c) in
+    let are : AreValues s.subst t.subst left (row (witnesses c)) = record {
+      first = repeated_value s.subst by.witness (witnesses c) own.0;
+      second = row_value s.subst (witnesses c) (witnesses_values s.subst c first);
+      third = repeated_value t.subst by.witness (witnesses c) other.0;
+      fourth = row_value t.subst (witnesses c) (witnesses_values t.subst c second);
+    } in
+    subst (λ (z : Tree). Same (tried_group by g ms s) (met_group by z ns (with_copy (size l) l t))) same
+    (witnessed_same s t ms ns (unifier_of left (row (witnesses c))) by left c l (size l) (record { first = own.1; second = own.1; third = other.1; fourth = other.1 }) are
+    (unifier_of_is left (row (witnesses c))) first second at list)
+
+-- the groups that are left come to both
+groups_same : (s t : State) (ms ns : List Member) (by : Grouping) (gs : List (List Tree)) → IsValue s.subst by.witness × IsValue s.subst by.result → IsValue t.subst by.witness × IsValue t.subst by.result
+    → Around s t → SameList s.subst t.subst (flat ms) (flat ns) → Around (with_groups by gs ms s) (with_groups by gs ns t)
+groups_same s t ms ns by [] own other at list = at
+groups_same s t ms ns by (g ∷ gs) own other at list = record {
+  agree = at.agree;
+  next = at.next;
+  beside = record { stack = same_alternative at.agree at.next at.beside.built list refl own other at.beside.stack; world = at.beside.world; steps = at.beside.steps; query = at.beside.query; built = at.beside.built };
+}
+
+grouped_same : (s t : State) (ms ns : List Member) (by : Grouping) (gs : List (List Tree)) → IsValue s.subst by.witness × IsValue s.subst by.result → IsValue t.subst by.witness × IsValue t.subst by.result
+    → Around s t → SameList s.subst t.subst (flat ms) (flat ns) → Same (grouped by gs ms s) (grouped by gs ns t)
+grouped_same s t ms ns by [] own other at list = fails_same at.beside
+grouped_same s t ms ns by (g ∷ []) own other at list = group_same s t ms ns by g own other at list
+grouped_same s t ms ns by (g ∷ h ∷ gs) own other at list =
+    group_same (with_groups by (h ∷ gs) ms s) (with_groups by (h ∷ gs) ns t) ms ns by g own other (groups_same s t ms ns by (h ∷ gs) own other at list) list
+
+collected_same : (s t : State) (ms ns : List Member) (c : Collecting) (copies : List Tree) → IsOwnCollecting s.subst c → IsOwnCollecting t.subst c → Around s t
+    → SameList s.subst t.subst (flat ms) (flat ns) → SameOut (Goes (collected c copies ms s)) (Goes (collected c copies ns t))
+collected_same s t ms ns (AsList result) copies own other at list = copies_same s t ms ns (size (list_of copies)) result (list_of copies) own other at list
+collected_same s t ms ns (InGroups by) copies own other at list = both_go (grouped_same s t ms ns by (groups_of copies) own other at list)
+
 -- a goal's converted body, which both substitutions leave as it is
 own_put : (r q : Subst) (b : Body) (mark : ℕ) (ms ns : List Member) → IsOwnBody r b → IsOwnBody q b → SameList r q (flat ms) (flat ns) → SameList r q (put b mark (flat ms)) (put b mark (flat ns))
 own_put r q b mark ms ns own other list = put_alike r q (flat ms) (flat ns) b b mark (own ∙ sym other) list
@@ -483,8 +584,8 @@ replied_same s t ms ns (Catches inside catcher recovery) own other at list =
 replied_same s t ms ns (Gathers template b result) own other at list =
     let h = length s.stack in
     let left = Gathering result [] 0 in
-    subst (λ (k : ℕ). SameOut (replied (Gathers template b result) ms s) (Goes (record (with_goal b (pushed ns left t)) { list = Goal b (suc k) ∷ Gather k template ∷ ns }))) (stack_length at.beside.stack)
-    (both_go (pushed_goal_same s t left b ms ns (Goal b (suc h) ∷ Gather h template ∷ ms) (Goal b (suc h) ∷ Gather h template ∷ ns) own.2 other.2 at list
+    subst (λ (k : ℕ). SameOut (replied (Gathers template b result) ms s) (Goes (record (with_goal b (pushed ns left (with_template result t))) { list = Goal b (suc k) ∷ Gather k template ∷ ns }))) (stack_length at.beside.stack)
+    (both_go (pushed_goal_same (with_template result s) (with_template result t) left b ms ns (Goal b (suc h) ∷ Gather h template ∷ ms) (Goal b (suc h) ∷ Gather h template ∷ ns) own.2 other.2 (template_same s t result at) list
     (own_put s.subst t.subst b (suc h) (Gather h template ∷ ms) (Gather h template ∷ ns) own.1 other.1 (same_gathering (own.0 ∙ sym other.0) list))))
 replied_same s t ms ns (Halts status) own other at list =
     subst (λ (w : World). SameOut (Ends (Halted status) s.world) (Ends (Halted status) w)) at.beside.world both_end
@@ -535,7 +636,10 @@ retried_same s t ms ns (Clauses call cs) own other first second at list =
 retried_same s t ms ns (Catching catcher recovery) own other first second at list = both_go (fails_same at.beside)
 retried_same s t ms ns (Gathering result copies count) own other first second at list =
     let here : SameList s.subst t.subst (flat s.list) (flat t.list) = rw (first, second) list in
-    copies_same s t s.list t.list (size (list_of copies)) result (list_of copies) own other at here
+    collected_same s t s.list t.list result copies own other at here
+retried_same s t ms ns (Groups by groups) own other first second at list =
+    let here : SameList s.subst t.subst (flat s.list) (flat t.list) = rw (first, second) list in
+    both_go (grouped_same s t s.list t.list by groups own other at here)
 retried_same s t ms ns (Offered left rights) own other first second at list =
     let here : SameList s.subst t.subst (flat s.list) (flat t.list) = rw (first, second) list in
     both_go (offered_same s t s.list t.list left rights own other at here)
@@ -571,6 +675,7 @@ caught_at_same s t Again a b xs ys ball o p first second h agree next built list
 caught_at_same s t (Clauses call cs) a b xs ys ball o p first second h agree next built list own other others out = out
 caught_at_same s t (Gathering result copies count) a b xs ys ball o p first second h agree next built list own other others out = out
 caught_at_same s t (Offered left rights) a b xs ys ball o p first second h agree next built list own other others out = out
+caught_at_same s t (Groups by groups) a b xs ys ball o p first second h agree next built list own other others out = out
 
 caught_same : {vs ws : List ℕ} {xs ys : List Alternative} (s t : State) (height : ℕ) (ball : Tree) (o p : Outcome) → variables s.query ≡ vs → variables t.query ≡ ws → Beside s t → SameStack vs ws xs ys → SameOut o p
     → SameOut (caught height xs ball s o) (caught height ys ball t p)

@@ -6,7 +6,7 @@ use Rattle.std.proofs.lemmas.Bool.{eqb-true, cases_Bool}
 use Rattle.std.proofs.lemmas.Bool.Decides.{Decides-eqb}
 use Rattle.iso_ops.specs.declared.settings.Unknown.{Unknown}
 use Rattle.iso_ops.specs.declared.settings.Unknown.TheVariants as on_unknown
-use Rattle.iso_model.specs.Terms.Trees.{Tree, Variable}
+use Rattle.iso_model.specs.Terms.Trees.{Tree, Variable, row}
 use Rattle.iso_model.specs.Terms.Variables.{variable_count}
 use Rattle.iso_model.specs.Terms.Sizes.{size}
 use Rattle.iso_model.specs.Terms.Substitutions.{Subst, apply, compose}
@@ -17,10 +17,12 @@ use Rattle.iso_model.specs.Terms.Copies.{copy_from, renamed}
 use Rattle.iso_model.specs.Terms.Lists.{list_of}
 use Rattle.iso_model.specs.Search.Bodies.{Body, Cut, Run, And, Or, If, Choose, map_body, is_true}
 use Rattle.iso_model.specs.Search.Databases.{Clause, Key, key_of, clauses_at}
-use Rattle.iso_model.specs.Search.BuiltIns.{Reply, Fails, Succeeds, Equates, EquatesCopy, Raises, Calls, CallsOnce, Refutes, Repeats, Catches, Gathers, Halts, AsksWorld, Writes, built_in, reply}
+use Rattle.iso_model.specs.Search.BuiltIns.{Reply, Fails, Succeeds, Equates, EquatesCopy, Raises, Calls, CallsOnce, Refutes, Repeats, Catches, Gathers, Halts, AsksWorld, Writes, built_in, reply, Grouping, Collecting, AsList, InGroups}
+use Rattle.iso_model.specs.Search.Groups.{groups_of, witnesses, items, collection}
+use Rattle.iso_model.specs.Search.Library.{list_made}
 use Rattle.iso_model.specs.Search.Settlements.{Settled, Refuses, Changes, Offers, Offer, Reference}
 use Rattle.iso_model.specs.declared.built_ins.BuiltIn.{BuiltIn}
-use Rattle.iso_model.specs.Search.Walker.{with_rights, State, World, Member, Goal, CutTo, Fail, Leave, Raise, Meet, Gather, Left, AsIs, Again, Clauses, Catching, Gathering, Offered, Alternative, Event, Ending, Outcome, Goes, Gives, Ends, NoMore, Uncaught, charged, paid, before, entered, under, tried_clause, with_others, tried, retried, backtracked, unknown_called, written, called, equated, equated_copy, without_removed, taken, met_right, tried_right, is_there, offered, settled, with_goal, replied, selected, run_goal, caught_at, caught, thrown, met, gathered, gathered_at, fails, clause_size, shortened, step_goal, step_list, step, with_copy}
+use Rattle.iso_model.specs.Search.Walker.{with_template, witnessed, repeated, tried_group, grouped, collected, Groups, with_rights, State, World, Member, Goal, CutTo, Fail, Leave, Raise, Meet, Gather, Left, AsIs, Again, Clauses, Catching, Gathering, Offered, Alternative, Event, Ending, Outcome, Goes, Gives, Ends, NoMore, Uncaught, charged, paid, before, entered, under, tried_clause, with_others, tried, retried, backtracked, unknown_called, written, called, equated, equated_copy, without_removed, taken, met_right, tried_right, is_there, offered, settled, with_goal, replied, selected, run_goal, caught_at, caught, thrown, met, gathered, gathered_at, fails, clause_size, shortened, step_goal, step_list, step, with_copy}
 use Rattle.iso_model.specs.Search.Runs.{Quiet, here, Comes}
 use Rattle.iso_model.proofs.Search.CallLemmas.{counted, unify_none}
 use Rattle.iso_model.proofs.Search.RunLaws.Quiets.{quiet_one, quiet_trans}
@@ -224,6 +226,7 @@ entry_thin t s Again a b xs ys ball o p h e f g list stack out = out
 entry_thin t s (Clauses call cs) a b xs ys ball o p h e f g list stack out = out
 entry_thin t s (Gathering result copies count) a b xs ys ball o p h e f g list stack out = out
 entry_thin t s (Offered left rights) a b xs ys ball o p h e f g list stack out = out
+entry_thin t s (Groups by groups) a b xs ys ball o p h e f g list stack out = out
 
 caught_at_thin : {ks : List Bool} {l k : Left} (t s : State) (a b : Alternative) (xs ys : List Alternative) (ball : Tree) (o p : Outcome) → Apart t s
     → a.subst ≡ b.subst → a.next ≡ b.next → a.built ≡ b.built → ThinList ks a.list b.list → ThinLeft l k → ThinStack ks xs ys → ThinOut o p
@@ -380,6 +383,36 @@ copies_thin : {ks : List Bool} (made : ℕ) (a b : Tree) (s : State) (l k ms ns 
 copies_thin made a b s l k ms ns xs ys list stack =
     equated_thin (under s.subst (unifier_of a (apply s.subst (copy_from b s.next)))) (with_copy made b s) l k ms ns xs ys list stack
 
+-- ---- groups of solutions
+
+witnessed_thin : {ks : List Bool} (u : Option Subst) (by : Grouping) (solutions : Tree) (s : State) (l k ms ns : List Member) (xs ys : List Alternative) → ThinList ks ms ns → ThinStack ks xs ys
+    → Thin (witnessed u by solutions ms (over s l xs)) (witnessed u by solutions ns (over s k ys))
+witnessed_thin None by solutions s l k ms ns xs ys list stack = fail_thin s stack
+witnessed_thin (Some u) by solutions s l k ms ns xs ys list stack =
+    let ts = collection by.sorts (items (apply u solutions)) in
+    equated_thin (under u (unifier_of (apply u by.result) (list_of ts))) (made_more (1 + list_made (length ts)) (record s { subst = u })) l k ms ns xs ys list stack
+
+group_thin : {ks : List Bool} (by : Grouping) (g : List Tree) (s : State) (l k ms ns : List Member) (xs ys : List Alternative) → ThinList ks ms ns → ThinStack ks xs ys
+    → Thin (tried_group by g ms (over s l xs)) (tried_group by g ns (over s k ys))
+group_thin by g s l k ms ns xs ys list stack =
+    let solutions = apply s.subst (copy_from (list_of g) s.next) in
+    witnessed_thin (under s.subst (unifier_of (repeated by.witness (witnesses solutions)) (row (witnesses solutions)))) by solutions (with_copy (size (list_of g)) (list_of g) s) l k ms ns xs ys
+    list stack
+
+grouped_thin : {ks : List Bool} (by : Grouping) (gs : List (List Tree)) (s : State) (l k ms ns : List Member) (xs ys : List Alternative) → ThinList ks ms ns → ThinStack ks xs ys
+    → Thin (grouped by gs ms (over s l xs)) (grouped by gs ns (over s k ys))
+grouped_thin by [] s l k ms ns xs ys list stack = fail_thin s stack
+grouped_thin by (g ∷ []) s l k ms ns xs ys list stack = group_thin by g s l k ms ns xs ys list stack
+grouped_thin by (g ∷ h ∷ gs) s l k ms ns xs ys list stack =
+    let a : Alternative = record { list = ms; subst = s.subst; next = s.next; built = s.built; left = Groups by (h ∷ gs) } in
+    let b : Alternative = record { list = ns; subst = s.subst; next = s.next; built = s.built; left = Groups by (h ∷ gs) } in
+    group_thin by g s l k ms ns (a ∷ xs) (b ∷ ys) (list_above (above all) list) (kept refl refl refl list same_left stack)
+
+collected_thin : {ks : List Bool} (c : Collecting) (copies : List Tree) (s : State) (l k ms ns : List Member) (xs ys : List Alternative) → ThinList ks ms ns → ThinStack ks xs ys
+    → Thin (collected c copies ms (over s l xs)) (collected c copies ns (over s k ys))
+collected_thin (AsList result) copies s l k ms ns xs ys list stack = copies_thin (size (list_of copies)) result (list_of copies) s l k ms ns xs ys list stack
+collected_thin (InGroups by) copies s l k ms ns xs ys list stack = grouped_thin by (groups_of copies) s l k ms ns xs ys list stack
+
 replied_thin : {ks : List Bool} (r : Reply) (s : State) (l k ms ns : List Member) (xs ys : List Alternative) → ThinList ks ms ns → ThinStack ks xs ys
     → ThinOut (replied r ms (over s l xs)) (replied r ns (over s k ys))
 replied_thin Fails s l k ms ns xs ys list stack = both_go (fail_thin s stack)
@@ -407,7 +440,7 @@ replied_thin (Catches inside catcher recovery) s l k ms ns xs ys list stack =
 replied_thin (Gathers template b result) s l k ms ns xs ys list stack =
     let count = stack_count stack in
     let whole = stack_whole stack in
-    both_go (over_thin (with_goal b s) (thin_goal all (ap suc count) (ap suc whole) (thin_gathering all count whole list))
+    both_go (over_thin (with_goal b (with_template result s)) (thin_goal all (ap suc count) (ap suc whole) (thin_gathering all count whole list))
     (kept refl refl refl list same_left stack))
 replied_thin (Halts status) s l k ms ns xs ys list stack = both_end
 replied_thin (AsksWorld settles) s l k ms ns xs ys list stack = both_go (settled_thin (settles s.next s.world) s l k ms ns xs ys list stack)
@@ -697,6 +730,7 @@ dead_missed AsIs z s is dead = absurd dead
 dead_missed Again z s is dead = absurd dead
 dead_missed (Catching catcher recovery) z s is dead = absurd dead
 dead_missed (Gathering result copies count) z s is dead = absurd dead
+dead_missed (Groups by groups) z s is dead = absurd dead
 
 -- ---- failure
 
@@ -726,8 +760,8 @@ same_retried Again s ms ns xs ys list stack =
     paid_thin s.steps s ms ns xs ys (both_go (over_thin s (list_above (above all) list) (kept refl refl refl list same_left stack)))
 same_retried (Clauses call cs) s ms ns xs ys list stack = both_go (tried_thin call cs s ms ns ms ns xs ys list stack)
 same_retried (Catching catcher recovery) s ms ns xs ys list stack = both_go (fail_thin s stack)
-same_retried (Gathering result copies count) s ms ns xs ys list stack =
-    both_go (copies_thin (size (list_of copies)) result (list_of copies) s ms ns ms ns xs ys list stack)
+same_retried (Gathering collecting copies count) s ms ns xs ys list stack = both_go (collected_thin collecting copies s ms ns ms ns xs ys list stack)
+same_retried (Groups by groups) s ms ns xs ys list stack = both_go (grouped_thin by groups s ms ns ms ns xs ys list stack)
 same_retried (Offered left rights) s ms ns xs ys list stack = both_go (offered_thin left rights s ms ns ms ns xs ys list stack)
 
 -- what is left is tried in both

@@ -1,5 +1,5 @@
 -- What a goal's value runs is made of values.
-use Rattle.std.proofs.Common.{◌≡◌, ℕ, List, true, false, Option, Some, None, refl, ap, ap₂, codes, if◌then◌else◌, nat_lt, int_lt, nat_abs, pos, ◌||◌, Result, Ok, Err}
+use Rattle.std.proofs.Common.{◌≡◌, ℕ, List, Bool, true, false, Option, Some, None, refl, ap, ap₂, codes, if◌then◌else◌, nat_lt, int_lt, nat_abs, pos, ◌||◌, Result, Ok, Err}
 use Rattle.std.specs.Str.{bytes_eq}
 use Rattle.iso_model.specs.Terms.Trees.{Tree, Variable, Integer, Name, Apply, End, More}
 use Rattle.iso_model.specs.Terms.Substitutions.{Subst, apply}
@@ -7,7 +7,7 @@ use Rattle.iso_model.specs.Terms.Arguments.{arguments, argument, others, with_ar
 use Rattle.iso_model.specs.Search.Bodies.{Body, Cut, Run, And, Or, If, Choose, map_body, either, both, converted, converted_two, one, two}
 use Rattle.iso_model.specs.Search.Keys.{Key, key}
 use Rattle.iso_model.specs.Search.Errors.{domain_error, max_arity_error, type_error}
-use Rattle.iso_model.specs.Search.BuiltIns.{Reply, Fails, Succeeds, Equates, EquatesCopy, Raises, Calls, CallsOnce, Refutes, Repeats, Catches, Gathers, Halts, AsksWorld, Writes, converted_reply, goal_reply, called_reply, findall_reply, throw_reply, halt_reply, answered, reply}
+use Rattle.iso_model.specs.Search.BuiltIns.{Reply, Fails, Succeeds, Equates, EquatesCopy, Raises, Calls, CallsOnce, Refutes, Repeats, Catches, Gathers, Halts, AsksWorld, Writes, AsList, InGroups, converted_reply, goal_reply, called_reply, findall_reply, grouping, groups_reply, throw_reply, halt_reply, answered, reply}
 use Rattle.iso_model.specs.Terms.Lists.{is_partial_list}
 use Rattle.iso_model.specs.Search.Library.{library_answer}
 use Rattle.iso_model.specs.Search.AtomTexts.{text_answer, Characters, element_code}
@@ -23,7 +23,9 @@ use Rattle.iso_model.proofs.Search.RunLaws.TextValues.{texts_own}
 use Rattle.iso_model.proofs.Search.RunLaws.PartValues.{parts_own}
 use Rattle.iso_model.specs.declared.built_ins.BuiltIn.{BuiltIn}
 use Rattle.iso_model.specs.declared.built_ins.BuiltIn.TheVariants as built_in
-use Rattle.iso_model.specs.Search.RunLaws.Sameness.{IsValue}
+use Rattle.iso_model.specs.Search.RunLaws.Sameness.{IsValue, IsOwnCollecting}
+use Rattle.iso_model.specs.Search.Groups.{stripped, witness_of, pair}
+use Rattle.iso_model.proofs.Search.RunLaws.GroupValues.{stripped_value, witness_value}
 use Rattle.iso_model.proofs.Search.RunLaws.TermValues.{argument_value, arguments_value, others_value, with_value}
 
 -- ---- bodies of values
@@ -109,7 +111,7 @@ IsOwnReply r (CallsOnce b) = IsOwnBody r b
 IsOwnReply r (Refutes b) = IsOwnBody r b
 IsOwnReply r Repeats = Unit {0}
 IsOwnReply r (Catches inside catcher recovery) = IsOwnReply r inside × IsValue r catcher × IsValue r recovery
-IsOwnReply r (Gathers template b result) = IsValue r template × IsOwnBody r b × IsValue r result
+IsOwnReply r (Gathers template b collecting) = IsValue r template × IsOwnBody r b × IsOwnCollecting r collecting
 IsOwnReply r (Halts status) = Unit {0}
 IsOwnReply r (AsksWorld settles) = (n : ℕ) (w : World) → IsOwnSettled r (settles n w)
 IsOwnReply r (Writes bytes) = Unit {0}
@@ -135,11 +137,22 @@ called_own r goal k own =
 
 findall_own : (r : Subst) (template goal result : Tree) (k : Key) → IsValue r template → IsValue r goal → IsValue r result → IsOwnReply r (findall_reply template goal result k)
 findall_own r template goal result k first own last =
-    goal_reply_own r (λ b. if is_partial_list result then Gathers template b result else Raises (type_error (codes "list") result k)) goal k
-    (λ b inner. elim (is_partial_list result) as (λ x. IsOwnReply r (if x then Gathers template b result else Raises (type_error (codes "list") result k))) [
+    goal_reply_own r (λ b. if is_partial_list result then Gathers template b (AsList result) else Raises (type_error (codes "list") result k)) goal k
+    (λ b inner. elim (is_partial_list result) as (λ x. IsOwnReply r (if x then Gathers template b (AsList result) else Raises (type_error (codes "list") result k))) [
       | true ↦ (first, inner, last)
       | false ↦ tt
     ]) own
+
+groups_own : (r : Subst) (sorts : Bool) (template goal result : Tree) (k : Key) → IsValue r template → IsValue r goal → IsValue r result → IsOwnReply r (groups_reply sorts template goal result k)
+groups_own r sorts template goal result k first own last =
+    let w = witness_of template goal in
+    let by = grouping sorts template goal result in
+    let witness : IsValue r w = witness_value r template goal own in
+    goal_reply_own r (λ b. if is_partial_list result then Gathers (pair w template) b (InGroups by) else Raises (type_error (codes "list") result k)) (stripped goal) k
+    (λ b inner. elim (is_partial_list result) as (λ x. IsOwnReply r (if x then Gathers (pair w template) b (InGroups by) else Raises (type_error (codes "list") result k))) [
+      | true ↦ (ap₂ pair witness first, inner, (witness, last))
+      | false ↦ tt
+    ]) (stripped_value r goal own)
 
 throw_own : (r : Subst) (t : Tree) (k : Key) → IsOwnReply r (throw_reply t k)
 throw_own r (Variable n) k = tt
@@ -196,6 +209,11 @@ reply_own r built_in.Halt v own = tt
 reply_own r built_in.HaltWith v own = halt_own r (argument 0 v) (key (codes "halt") 1)
 reply_own r built_in.Findall v own =
     findall_own r (argument 0 v) (argument 1 v) (argument 2 v) (key (codes "findall") 3) (argument_value r 0 v own) (argument_value r 1 v own) (argument_value r 2 v own)
+reply_own r built_in.Bagof v own =
+    groups_own r false (argument 0 v) (argument 1 v) (argument 2 v) (key (codes "bagof") 3) (argument_value r 0 v own) (argument_value r 1 v own) (argument_value r 2 v own)
+reply_own r built_in.Setof v own =
+    groups_own r true (argument 0 v) (argument 1 v) (argument 2 v) (key (codes "setof") 3) (argument_value r 0 v own) (argument_value r 1 v own) (argument_value r 2 v own)
+reply_own r built_in.Exists v own = goal_reply_own r Calls (argument 1 v) (key (codes "^") 2) (λ b inner. inner) (argument_value r 1 v own)
 reply_own r (built_in.Library row) v own = answered_own r (library_answer row v) (library_own r row v own)
 reply_own r (built_in.Setting row) v own = λ n w. settings_own r row v w own
 reply_own r (built_in.Storage row) v own = λ n w. storages_own r row v n w own

@@ -6,7 +6,8 @@ use Rattle.iso_model.specs.Terms.Trees.{Tree}
 use Rattle.iso_model.specs.Terms.Variables.{variables}
 use Rattle.iso_model.specs.Terms.Substitutions.{Subst, apply}
 use Rattle.iso_model.specs.Search.Bodies.{Body, Cut, Run, And, Or, If, Choose, map_body}
-use Rattle.iso_model.specs.Search.Walker.{query_size, State, Member, Goal, CutTo, Fail, Leave, Raise, Meet, Gather, Left, AsIs, Again, Clauses, Catching, Gathering, Offered, Alternative}
+use Rattle.iso_model.specs.Search.Replies.{Collecting, AsList, InGroups}
+use Rattle.iso_model.specs.Search.Walker.{query_size, State, Member, Goal, CutTo, Fail, Leave, Raise, Meet, Gather, Left, AsIs, Again, Clauses, Catching, Gathering, Offered, Groups, Alternative}
 
 -- the term stays as it is under the substitution
 abbrev pub IsValue : Subst → Tree → Type 0
@@ -57,15 +58,21 @@ pub record Agree (r q : Subst) (vs ws : List ℕ) (n : ℕ) : Type 0 where
   pub twice : IsTwice r
   pub other : IsTwice q
 
--- what is left at an alternative is for a call's value, or for those of a goal of catch/3 or findall/3, or is made of
--- values
+-- what solutions are gathered for is made of values
+abbrev pub IsOwnCollecting : Subst → Collecting → Type 0
+IsOwnCollecting r (AsList result) = IsValue r result
+IsOwnCollecting r (InGroups by) = IsValue r by.witness × IsValue r by.result
+
+-- what is left at an alternative is for a call's value, or for those of a goal of catch/3 or of one that gathers, or is
+-- made of values
 abbrev pub IsOwnLeft : Subst → Left → Type 0
 IsOwnLeft r AsIs = Unit {0}
 IsOwnLeft r Again = Unit {0}
 IsOwnLeft r (Clauses call cs) = IsValue r call
 IsOwnLeft r (Catching catcher recovery) = IsValue r catcher × IsValue r recovery
-IsOwnLeft r (Gathering result copies count) = IsValue r result
+IsOwnLeft r (Gathering collecting copies count) = IsOwnCollecting r collecting
 IsOwnLeft r (Offered left rights) = IsValue r left
+IsOwnLeft r (Groups by groups) = IsValue r by.witness × IsValue r by.result
 
 -- the alternatives are the same, each under its own substitutions, for queries with these variables
 pub data SameStack (vs ws : List ℕ) : List Alternative → List Alternative → Type 0 where

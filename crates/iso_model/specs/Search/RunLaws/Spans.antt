@@ -3,7 +3,7 @@
 use Rattle.std.specs.Prelude.{◌+◌, ◌*◌, ℕ, List, [], ◌∷◌, length, Bool, true, false, ◌||◌, if◌then◌else◌}
 use Rattle.iso_model.specs.Terms.Trees.{Tree}
 use Rattle.iso_model.specs.Search.Databases.{Clause}
-use Rattle.iso_model.specs.Search.Walker.{State, Left, AsIs, Again, Clauses, Catching, Gathering, Offered, Alternative}
+use Rattle.iso_model.specs.Search.Walker.{State, Left, AsIs, Again, Clauses, Catching, Gathering, Offered, Groups, Alternative}
 
 -- for any test by which clauses are ruled out for a call (of a static procedure: by first arguments; of a dynamic one
 -- none is)
@@ -20,6 +20,7 @@ module _ (enters : Tree → Clause → Bool) where
   counts (Catching catcher recovery) = true
   counts (Gathering result copies count) = true
   counts (Offered left rights) = true
+  counts (Groups by groups) = true
 
   abbrev pub stack_span : List Alternative → ℕ
   stack_span [] = 0

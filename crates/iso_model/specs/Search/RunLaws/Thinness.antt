@@ -7,7 +7,7 @@ use Rattle.iso_model.specs.Terms.Substitutions.{Subst, apply}
 use Rattle.iso_model.specs.Terms.Unifiers.{NeverEqual}
 use Rattle.iso_model.specs.Search.Bodies.{Body}
 use Rattle.iso_model.specs.Search.Databases.{Clause}
-use Rattle.iso_model.specs.Search.Walker.{State, Member, Goal, CutTo, Fail, Leave, Raise, Meet, Gather, Alternative, Left, AsIs, Again, Clauses, Catching, Gathering, Offered}
+use Rattle.iso_model.specs.Search.Walker.{State, Member, Goal, CutTo, Fail, Leave, Raise, Meet, Gather, Alternative, Left, AsIs, Again, Clauses, Catching, Gathering, Offered, Groups}
 use Rattle.iso_model.specs.Search.Settlements.{Offer}
 
 -- The clause's head and the call are never equal, however the head's variables are named or bound.
@@ -37,7 +37,8 @@ IsDead (Offered left os) = SkipsRows left [] os
 IsDead AsIs = ⊥
 IsDead Again = ⊥
 IsDead (Catching catcher recovery) = ⊥
-IsDead (Gathering result copies count) = ⊥
+IsDead (Gathering collecting copies count) = ⊥
+IsDead (Groups by groups) = ⊥
 
 -- Of each alternative of the second state, the newest first, it is said whether the first state has it. So many it has.
 abbrev pub kept_count : List Bool → ℕ

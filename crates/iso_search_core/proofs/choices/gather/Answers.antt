@@ -40,6 +40,28 @@ returns-in_default g c =
     let R = Gains (term_of c.args.solution.now) in
     record {
       gains = changes_one R c.args.place c.args.choices.now.items c.index_mut.result.now _ within c.index_mut.ensures.value
-          (record { mark = refl; kept = refl; rest = refl; left = not_gathering R c.index_mut.result.now.left c.in_default.not-Gathering });
+          (record { mark = refl; kept = refl; rest = refl; left = not_gathering R c.index_mut.result.now.left c.in_default.not-Gathering c.in_default.not-Grouping });
       kept = tt;
     }
+
+pub returns-in-Grouping-clause-gains : goal.returns-in-Grouping-clause-gains
+returns-in-Grouping-clause-gains g c =
+    let all = c.len.ensures in
+    let whole = c.args.choices.now.ok.0 in
+    let here = c.if-place-len.false in
+    let within : c.args.place < length c.args.choices.now.items = omega (arith, all, whole, here) in
+    on_ok_weaker c.add-in-Grouping.result (λ h. changes_one (Gains (term_of c.args.solution.now)) c.args.place
+    c.args.choices.now.items c.index_mut.result.now _ within c.index_mut.ensures.value
+    (record { mark = refl; kept = refl; rest = refl; left = rw c.in-Grouping.is (c.add-in-Grouping.new.self, refl, h) }))
+    c.add-in-Grouping.ensures.gains
+
+pub returns-in-Grouping-clause-kept : goal.returns-in-Grouping-clause-kept
+returns-in-Grouping-clause-kept g c =
+    let all = c.len.ensures in
+    let whole = c.args.choices.now.ok.0 in
+    let here = c.if-place-len.false in
+    let within : c.args.place < length c.args.choices.now.items = omega (arith, all, whole, here) in
+    on_err_weaker c.add-in-Grouping.result (λ h. changes_one SameCopies c.args.place c.args.choices.now.items
+    c.index_mut.result.now _ within c.index_mut.ensures.value
+    (record { mark = refl; kept = refl; rest = refl; left = rw c.in-Grouping.is (c.add-in-Grouping.new.self, refl, h) }))
+    c.add-in-Grouping.ensures.kept

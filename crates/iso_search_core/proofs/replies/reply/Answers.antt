@@ -1,12 +1,12 @@
 use Rattle.std.proofs.Common.{◌≡◌, length, ap, ◌∙◌, arith}
 use Rattle.std.proofs.lemmas.Result.{IfOk-weaker}
-use Rattle.iso_search_core.proofs.ReplyLemmas.{call_body, raised_reply, once_body, not_body, halt_replied, output_replied}
+use Rattle.iso_search_core.proofs.ReplyLemmas.{call_body, raised_reply, once_body, not_body, exists_body, halt_replied, output_replied}
 use Rattle.iso_model.specs.Search.BuiltIns.{reply, Calls, CallsOnce, Refutes}
 use Rattle.iso_model.specs.declared.built_ins.BuiltIn.TheVariants as built_in
 use Rattle.iso_model.specs.Search.AtomTexts.{text_answer}
 use Rattle.iso_model.specs.Search.Library.{library_answer}
 use Rattle.iso_search_core.specs.Cells.{reply_cells}
-use Rattle.iso_search_core.proofs.CellLemmas.{takes_counted, once_counts, not_counts, answer_counts}
+use Rattle.iso_search_core.proofs.CellLemmas.{takes_counted, once_counts, not_counts, exists_counts, answer_counts}
 use Rattle.iso_search_core.proofs.replies.reply.Goals as goal
 
 pub place_called-requires-clause-some : goal.place_called-requires-clause-some
@@ -127,3 +127,46 @@ returns-in-Library-clause-cells g c = λ t fits are. takes_counted (ap (λ b. re
 
 pub returns-in-Text-clause-cells : goal.returns-in-Text-clause-cells
 returns-in-Text-clause-cells g c = λ t fits are. takes_counted (ap (λ b. reply_cells (reply b t)) c.in-Text.is ∙ answer_counts (text_answer c.in-Text.row t)) (c.text.ensures.cells t are)
+
+-- ---- bagof/3, setof/3 and ^/2
+
+pub groups-requires-clause-count : goal.groups-requires-clause-count
+groups-requires-clause-count g c = rw c.in-Bagof.is at c.requires.count
+
+pub groups-requires-in-Setof-clause-count : goal.groups-requires-in-Setof-clause-count
+groups-requires-in-Setof-clause-count g c = rw c.in-Setof.is at c.requires.count
+
+pub place_argument-requires-in-Exists-clause-index : goal.place_argument-requires-in-Exists-clause-index
+place_argument-requires-in-Exists-clause-index g c =
+    let two : length c.args.arguments.now ≡ 2 = rw c.in-Exists.is at c.requires.count in
+    omega (arith, two)
+
+pub returns-in_ok-groups-in-Bagof-clause-replies : goal.returns-in_ok-groups-in-Bagof-clause-replies
+returns-in_ok-groups-in-Bagof-clause-replies g c = λ t fits are. rw c.in-Bagof.is (c.in_ok-groups-in-Bagof.ensures.replies t are c.args.lists.now)
+
+pub returns-in_ok-groups-in-Setof-clause-replies : goal.returns-in_ok-groups-in-Setof-clause-replies
+returns-in_ok-groups-in-Setof-clause-replies g c = λ t fits are. rw c.in-Setof.is (c.in_ok-groups-in-Setof.ensures.replies t are c.args.lists.now)
+
+pub returns-in_ok-groups-in-Bagof-clause-asks : goal.returns-in_ok-groups-in-Bagof-clause-asks
+returns-in_ok-groups-in-Bagof-clause-asks g c = c.in_ok-groups-in-Bagof.ensures.asks c.args.built_in
+
+pub returns-in_ok-groups-in-Setof-clause-asks : goal.returns-in_ok-groups-in-Setof-clause-asks
+returns-in_ok-groups-in-Setof-clause-asks g c = c.in_ok-groups-in-Setof.ensures.asks c.args.built_in
+
+pub returns-in-Body-4-clause-replies : goal.returns-in-Body-4-clause-replies
+returns-in-Body-4-clause-replies g c = λ t fits are.
+    rw c.in-Exists.is (exists_body g.L.Lists _ _ _ _ t c.in-Body-4.place (rw c.in-Body-4.is at (c.in_ok-place-in-Exists.ensures.placed t are)))
+
+pub returns-in-Raises-4-clause-replies : goal.returns-in-Raises-4-clause-replies
+returns-in-Raises-4-clause-replies g c = λ t fits are.
+    let kept = rw c.in-Raises-4.is at c.in_ok-place-in-Exists.ensures.raises in
+    rw c.in-Exists.is (raised_reply g.L.Lists _ _ _ _ _ c.in-Raises-4.ball ((rw c.in-Raises-4.is at (c.in_ok-place-in-Exists.ensures.placed t are)) Calls) kept.0 kept.1 c.in_ok-place-in-Exists.ensures.keeps)
+
+pub returns-in_err-place-in-Exists-clause-cells : goal.returns-in_err-place-in-Exists-clause-cells
+returns-in_err-place-in-Exists-clause-cells g c = λ t fits are. takes_counted (ap (λ b. reply_cells (reply b t)) c.in-Exists.is ∙ exists_counts t) (c.in_err-place-in-Exists.ensures.cells t are)
+
+pub returns-in-Body-4-clause-cells : goal.returns-in-Body-4-clause-cells
+returns-in-Body-4-clause-cells g c = λ t fits are. takes_counted (ap (λ b. reply_cells (reply b t)) c.in-Exists.is ∙ exists_counts t) (c.in_ok-place-in-Exists.ensures.cells t are)
+
+pub returns-in-Raises-4-clause-cells : goal.returns-in-Raises-4-clause-cells
+returns-in-Raises-4-clause-cells g c = λ t fits are. takes_counted (ap (λ b. reply_cells (reply b t)) c.in-Exists.is ∙ exists_counts t) (c.in_ok-place-in-Exists.ensures.cells t are)

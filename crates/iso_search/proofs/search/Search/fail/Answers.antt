@@ -4,7 +4,10 @@ use Rattle.iso_search_core.specs.declared.choices.Choice.{Choice}
 use Rattle.iso_search.specs.EngineStates.{kept_cost}
 use Rattle.iso_search.proofs.BackLemmas.{newest_shows}
 use Rattle.iso_search.proofs.FailLemmas.{ends_run, resumes_on, passes_on, repeats_on, spends_on}
+use Rattle.iso_search_core.specs.GroupsLeft.{LeavesGroups}
+use Rattle.iso_search.proofs.GroupSteps.{newest_twice}
 use Rattle.iso_search.proofs.Moves.Gather.{found_on, found_stops}
+use Rattle.iso_search.proofs.Moves.Grouped.{are_gathered, are_kept, groups_on, groups_stop}
 use Rattle.iso_search.proofs.MovedLemmas.{moved_not, moved_on, moved_pauses}
 use Rattle.iso_search.proofs.Moves.Offer.{offers_on, offers_stop, shows_stop}
 use Rattle.iso_search.proofs.Moves.Search.{stands_itself}
@@ -123,6 +126,86 @@ returns-in_err-end_gathering-in-Gathering g c =
     (let b = newest_shows g.S.Store g.L.Lists (c.go_back-newest.ensures.back r.own r.engine) c.len.ensures c.index.ensures c.in-Gathering.is in
     (found_stops g.S.Store g.L.Lists c.args.self.now c.end_gathering.new.self s r b.alternative b.below c.requires.failing b.stack _ _ _ b.has.is
     (c.in_err-end_gathering-in-Gathering.ensures.kept b.choice _ r.own b.alternative b.below b.mark_is b.rest_is b.left_is b.back))))
+    (search rules) (search rules)
+
+-- ---- groups of what a bagof/3 or setof/3 has gathered, and those that were left
+
+pub try_groups-requires-clause-back : goal.try_groups-requires-clause-back
+try_groups-requires-clause-back g c =
+    let r = c.requires.stands.1 in
+    let b = newest_shows g.S.Store g.L.Lists (c.go_back-newest.ensures.back r.own r.engine) c.len.ensures c.index.ensures c.in-Grouping.is in (
+      b.choice,
+      r.own,
+      b.alternative,
+      b.below,
+      b.mark_is,
+      b.rest_is,
+      subst LeavesGroups (sym b.left_is) tt,
+      b.back,
+      newest_twice r.own c.requires.stands.0 b.alternative b.below r.same b.stack,
+    )
+
+pub returns-in_ok-try_groups-in-Grouping : goal.returns-in_ok-try_groups-in-Grouping
+returns-in_ok-try_groups-in-Grouping g c =
+    moved_on g.S.Store g.L.Lists
+    (λ s r.
+    (let b = newest_shows g.S.Store g.L.Lists (c.go_back-newest.ensures.back r.own r.engine) c.len.ensures c.index.ensures c.in-Grouping.is in
+    let e = c.in_ok-try_groups-in-Grouping.ensures in
+    let are = are_gathered _ _ _ _ b.has.is in
+    groups_on g.S.Store g.L.Lists c.args.self.now c.try_groups.new.self s r b.alternative b.below c.requires.failing b.stack _ _ are
+    (e.tried b.choice r.own b.alternative b.below _ _ b.mark_is b.rest_is (subst LeavesGroups (sym b.left_is) tt) b.back
+    (newest_twice r.own s b.alternative b.below r.same b.stack) are) e.awake))
+    (let back = c.go_back-newest.ensures in
+    falls_back g.L.Lists c.args.self.now c.go_back-newest.new.self c.try_groups.new.self back.choices back.costs back.steps c.in_ok-try_groups-in-Grouping.ensures.steps c.in_ok-try_groups-in-Grouping.ensures.costs) (search rules)
+
+pub returns-in_err-try_groups-in-Grouping : goal.returns-in_err-try_groups-in-Grouping
+returns-in_err-try_groups-in-Grouping g c =
+    moved_not g.S.Store g.L.Lists c.from_residual-in_err-try_groups-in-Grouping.result c.from_residual-in_err-try_groups-in-Grouping.ensures.0
+    (λ s r.
+    (let b = newest_shows g.S.Store g.L.Lists (c.go_back-newest.ensures.back r.own r.engine) c.len.ensures c.index.ensures c.in-Grouping.is in
+    let are = are_gathered _ _ _ _ b.has.is in
+    (groups_stop g.S.Store g.L.Lists c.args.self.now c.try_groups.new.self s r b.alternative b.below c.requires.failing b.stack _ _ are
+    (c.in_err-try_groups-in-Grouping.ensures.kept b.choice r.own b.alternative b.below _ _ b.mark_is b.rest_is (subst LeavesGroups (sym b.left_is) tt) b.back
+    (newest_twice r.own s b.alternative b.below r.same b.stack) are))))
+    (search rules) (search rules)
+
+pub try_groups-requires-in-Groups-clause-back : goal.try_groups-requires-in-Groups-clause-back
+try_groups-requires-in-Groups-clause-back g c =
+    let r = c.requires.stands.1 in
+    let b = newest_shows g.S.Store g.L.Lists (c.go_back-newest.ensures.back r.own r.engine) c.len.ensures c.index.ensures c.in-Groups.is in (
+      b.choice,
+      r.own,
+      b.alternative,
+      b.below,
+      b.mark_is,
+      b.rest_is,
+      subst LeavesGroups (sym b.left_is) tt,
+      b.back,
+      newest_twice r.own c.requires.stands.0 b.alternative b.below r.same b.stack,
+    )
+
+pub returns-in_ok-try_groups-in-Groups : goal.returns-in_ok-try_groups-in-Groups
+returns-in_ok-try_groups-in-Groups g c =
+    moved_on g.S.Store g.L.Lists
+    (λ s r.
+    (let b = newest_shows g.S.Store g.L.Lists (c.go_back-newest.ensures.back r.own r.engine) c.len.ensures c.index.ensures c.in-Groups.is in
+    let e = c.in_ok-try_groups-in-Groups.ensures in
+    let are = are_kept _ _ _ b.has.is in
+    groups_on g.S.Store g.L.Lists c.args.self.now c.try_groups-in-Groups.new.self s r b.alternative b.below c.requires.failing b.stack _ _ are
+    (e.tried b.choice r.own b.alternative b.below _ _ b.mark_is b.rest_is (subst LeavesGroups (sym b.left_is) tt) b.back
+    (newest_twice r.own s b.alternative b.below r.same b.stack) are) e.awake))
+    (let back = c.go_back-newest.ensures in
+    falls_back g.L.Lists c.args.self.now c.go_back-newest.new.self c.try_groups-in-Groups.new.self back.choices back.costs back.steps c.in_ok-try_groups-in-Groups.ensures.steps c.in_ok-try_groups-in-Groups.ensures.costs) (search rules)
+
+pub returns-in_err-try_groups-in-Groups : goal.returns-in_err-try_groups-in-Groups
+returns-in_err-try_groups-in-Groups g c =
+    moved_not g.S.Store g.L.Lists c.from_residual-in_err-try_groups-in-Groups.result c.from_residual-in_err-try_groups-in-Groups.ensures.0
+    (λ s r.
+    (let b = newest_shows g.S.Store g.L.Lists (c.go_back-newest.ensures.back r.own r.engine) c.len.ensures c.index.ensures c.in-Groups.is in
+    let are = are_kept _ _ _ b.has.is in
+    (groups_stop g.S.Store g.L.Lists c.args.self.now c.try_groups-in-Groups.new.self s r b.alternative b.below c.requires.failing b.stack _ _ are
+    (c.in_err-try_groups-in-Groups.ensures.kept b.choice r.own b.alternative b.below _ _ b.mark_is b.rest_is (subst LeavesGroups (sym b.left_is) tt) b.back
+    (newest_twice r.own s b.alternative b.below r.same b.stack) are))))
     (search rules) (search rules)
 
 -- ---- rows that were left

@@ -6,6 +6,7 @@ use Rattle.iso_store_core.specs.Presents.{Present}
 use Rattle.iso_search_core.specs.Cells.{conversion_cells}
 use Rattle.iso_model.specs.Terms.Trees.{Tree}
 use Rattle.iso_search.specs.EngineStates.{IsEngine, Remains}
+use Rattle.iso_model.specs.Search.Replies.{AsList}
 use Rattle.iso_model.specs.Search.Walker.{Gather, Gathering, Goal, pushed}
 use Rattle.iso_prep.specs.Conversions.{is_callable}
 use Rattle.iso_search.specs.Gathers.{result_of}
@@ -31,7 +32,7 @@ run_converted-requires-clause-ahead g c =
     let h = c.requires.enters.1 in
     let result = result_of (g.S.Store.present e.store) c.args.goal in
     let has = nothing_gathered g.S.Store g.L.Lists e c.args.goal s c.args.rest h c.arg-solutions.result c.new.result c.arg-solutions.ensures.holds c.arg-solutions.ensures.value c.new.ensures.copies c.new.ensures.variables in
-    (pushed s.list (Gathering result [] 0) s, c.in_ok-push_choice.ensures.ahead s (Gathering result [] 0) (ap Ok c.if-not-branch.false) h.ahead has h.space)
+    (pushed s.list (Gathering (AsList result) [] 0) s, c.in_ok-push_choice.ensures.ahead s (Gathering (AsList result) [] 0) (ap Ok c.if-not-branch.false) h.ahead has h.space)
 
 pub run_converted-requires-clause-callable : goal.run_converted-requires-clause-callable
 run_converted-requires-clause-callable g c = ap is_callable (meaning_on _ c.in_ok-push_choice.ensures.present c.arg-solved.ensures.value) ∙ c.requires.can.1
@@ -41,10 +42,10 @@ returns-in_err-run_converted-clause-kept g c = λ s h.
     (let e = c.args.self.now in
     let result = result_of (g.S.Store.present e.store) c.args.goal in
     let has = nothing_gathered g.S.Store g.L.Lists e c.args.goal s c.args.rest h c.arg-solutions.result c.new.result c.arg-solutions.ensures.holds c.arg-solutions.ensures.value c.new.ensures.copies c.new.ensures.variables in
-    let ahead = c.in_ok-push_choice.ensures.ahead s (Gathering result [] 0) (ap Ok c.if-not-branch.false) h.ahead has h.space in
+    let ahead = c.in_ok-push_choice.ensures.ahead s (Gathering (AsList result) [] 0) (ap Ok c.if-not-branch.false) h.ahead has h.space in
     behind_error c.from_residual-in_err-run_converted.result
-    (inr (subst (λ (x : Tree). Remains g.S.Store g.L.Lists c.run_converted.new.self (record (pushed s.list (Gathering result [] 0) s) { built = s.built + conversion_cells x })) (meaning_on _ c.in_ok-push_choice.ensures.present c.arg-solved.ensures.value)
-    (c.in_err-run_converted.ensures.kept (pushed s.list (Gathering result [] 0) s) ahead))))
+    (inr (subst (λ (x : Tree). Remains g.S.Store g.L.Lists c.run_converted.new.self (record (pushed s.list (Gathering (AsList result) [] 0) s) { built = s.built + conversion_cells x })) (meaning_on _ c.in_ok-push_choice.ensures.present c.arg-solved.ensures.value)
+    (c.in_err-run_converted.ensures.kept (pushed s.list (Gathering (AsList result) [] 0) s) ahead))))
 
 pub returns-clause-called : goal.returns-clause-called
 returns-clause-called g c = λ s b h is.
@@ -53,9 +54,9 @@ returns-clause-called g c = λ s b h is.
     let many : c.len-height.result ≡ length e.choices.items = cc (c.len-height.ensures, e.choices.ok.0) in
     let result = result_of p c.args.goal in
     let has = nothing_gathered g.S.Store g.L.Lists e c.args.goal s c.args.rest h c.arg-solutions.result c.new.result c.arg-solutions.ensures.holds c.arg-solutions.ensures.value c.new.ensures.copies c.new.ensures.variables in
-    let ahead = c.in_ok-push_choice.ensures.ahead s (Gathering result [] 0) (ap Ok c.if-not-branch.false) h.ahead has h.space in
-    let run = c.in_ok-run_converted.ensures.runs (pushed s.list (Gathering result [] 0) s) b ahead (ap converted (meaning_on _ c.in_ok-push_choice.ensures.present c.arg-solved.ensures.value) ∙ is) in
-    let engine = subst (λ (x : Present _). IsEngine g.S.Store g.L.Lists c.run_converted.new.self (record (pushed s.list (Gathering result [] 0) s) { list = Goal run.0 (c.len-height.result + 1) ∷ Gather c.len-height.result (x.term c.arg-template.result) ∷ s.list; built = s.built + size (body_term b) }))
+    let ahead = c.in_ok-push_choice.ensures.ahead s (Gathering (AsList result) [] 0) (ap Ok c.if-not-branch.false) h.ahead has h.space in
+    let run = c.in_ok-run_converted.ensures.runs (pushed s.list (Gathering (AsList result) [] 0) s) b ahead (ap converted (meaning_on _ c.in_ok-push_choice.ensures.present c.arg-solved.ensures.value) ∙ is) in
+    let engine = subst (λ (x : Present _). IsEngine g.S.Store g.L.Lists c.run_converted.new.self (record (pushed s.list (Gathering (AsList result) [] 0) s) { list = Goal run.0 (c.len-height.result + 1) ∷ Gather c.len-height.result (x.term c.arg-template.result) ∷ s.list; built = s.built + size (body_term b) }))
     c.in_ok-push_choice.ensures.present run.2 in (
       p.term c.arg-template.result,
       run.0,

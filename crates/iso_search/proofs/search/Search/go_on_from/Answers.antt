@@ -16,6 +16,7 @@ use Rattle.iso_search.proofs.RunCosts.{next_falls, throws_falls}
 use Rattle.iso_search.proofs.ReplyKinds.{replied_as, asks_as, went_words, unbound_same}
 use Rattle.iso_search.proofs.Moves.Reply.{moved_behind, stays_took, base_took, world_took, list_took, asks_at, asked_now, asked_stops, asked_over, setting_asks, storing, stores_at, stores_now, store_stops, store_over, writing, writes_at, writes_now, write_stops, goes_on, fails_now, unbound_ahead, raises_now, halts_now, after, enters_catch, none_raised, inside_can, inside_converted, calls_inside_now, call_inside_stops, call_inside_over, throws_inside_now, throw_inside_stops, throw_inside_over, called, called_ahead, calls_now, calls_stops, once_now, once_stops, refutes_now, refute_stops, refute_over, repeating, repeating_ahead, repeats_now, repeat_stops, repeat_over, behind_findall, enters_findall, solved_can, solved_converted, finds_now, find_stops, find_over, parts_at, parts_ask}
 use Rattle.iso_search.proofs.MovedLemmas.{moved_on, moved_pauses}
+use Rattle.iso_search.proofs.Moves.Groups.{behind_groups, enters_groups, stripped_can, stripped_converted, groups_now, groups_stop, groups_over}
 use Rattle.iso_search.proofs.Moves.Word.{arguments_still}
 use Rattle.iso_search.proofs.search.Search.go_on_from.Goals as goal
 
@@ -193,6 +194,27 @@ returns-in-Gathers g c = λ e b z has stands.
     (λ s r. on_err_weaker c.find_all.result (find_stops g.S.Store g.L.Lists has.took s r by.0 by.2 by.1 by.3 by.4 c.find_all.new.self)
     (c.find_all.ensures.kept (behind_findall g.S.Store g.L.Lists has.took s r by.0 by.2 by.1 by.3 by.4) (enters_findall g.S.Store g.L.Lists has.took s r by.0 by.2 by.1 by.3 by.4)))
     c.find_all.ensures.falls (λ s r. result_full c.find_all.result (find_over g.S.Store g.L.Lists has.took s r by.0 by.2 by.1 by.3 by.4) c.find_all.ensures.frames) c.find_all.ensures.met c.find_all.ensures.stays)
+
+-- ---- for groups of them
+
+pub find_groups-requires : goal.find_groups-requires
+find_groups-requires g c =
+    let has = c.requires.2 in
+    let by = replied_as g.S.Store g.L.Lists has (replied.Groups c.in-Groups.sorts) c.in-Groups.is in
+    record {
+      enters = (behind_groups g.S.Store g.L.Lists has.took c.requires.3.0 c.requires.3.1 by.0 by.1 by.2 c.in-Groups.sorts by.3 by.5 by.4, enters_groups g.S.Store g.L.Lists has.took c.requires.3.0 c.requires.3.1 by.0 by.1 by.2 c.in-Groups.sorts by.3 by.5 by.4);
+      can = stripped_can g.S.Store g.L.Lists has.took c.requires.3.0 c.requires.3.1 by.0 by.1 by.2 c.in-Groups.sorts by.3 by.5 by.4;
+    }
+
+pub returns-in-Groups : goal.returns-in-Groups
+returns-in-Groups g c = λ e b z has stands.
+    (let by = replied_as g.S.Store g.L.Lists has (replied.Groups c.in-Groups.sorts) c.in-Groups.is in
+    moved_behind g.S.Store g.L.Lists has.took z stands c.find_groups.result c.find_groups.new.self
+    (λ s r. IfOk-weaker c.find_groups.result _ _ (groups_now g.S.Store g.L.Lists has.took s r by.0 by.1 by.2 c.in-Groups.sorts by.3 by.5 by.4 c.find_groups.new.self)
+    (c.find_groups.ensures.called (behind_groups g.S.Store g.L.Lists has.took s r by.0 by.1 by.2 c.in-Groups.sorts by.3 by.5 by.4) by.1 (enters_groups g.S.Store g.L.Lists has.took s r by.0 by.1 by.2 c.in-Groups.sorts by.3 by.5 by.4) (stripped_converted g.S.Store g.L.Lists has.took s r by.0 by.1 by.2 c.in-Groups.sorts by.3 by.5 by.4)))
+    (λ s r. on_err_weaker c.find_groups.result (groups_stop g.S.Store g.L.Lists has.took s r by.0 by.1 by.2 c.in-Groups.sorts by.3 by.5 by.4 c.find_groups.new.self)
+    (c.find_groups.ensures.kept (behind_groups g.S.Store g.L.Lists has.took s r by.0 by.1 by.2 c.in-Groups.sorts by.3 by.5 by.4) (enters_groups g.S.Store g.L.Lists has.took s r by.0 by.1 by.2 c.in-Groups.sorts by.3 by.5 by.4)))
+    c.find_groups.ensures.falls (λ s r. result_full c.find_groups.result (groups_over g.S.Store g.L.Lists has.took s r by.0 by.1 by.2 c.in-Groups.sorts by.3 by.5 by.4) c.find_groups.ensures.frames) c.find_groups.ensures.met c.find_groups.ensures.stays)
 
 -- ---- what it comes to rests on the operators and the flags
 

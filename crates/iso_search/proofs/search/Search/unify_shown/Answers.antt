@@ -8,6 +8,23 @@ use Rattle.iso_search.proofs.StoppedLemmas.{keeps_store}
 use Rattle.iso_search.proofs.ShowEnds.{on_error_too, unified}
 use Rattle.iso_search.proofs.search.Search.unify_shown.Goals as goal
 
+pub unify_clause-requires-clause-clause : goal.unify_clause-requires-clause-clause
+unify_clause-requires-clause-clause g c =
+    let w = c.requires.shows in
+    let e = c.args.self.now in
+    (w.3, left_clause (g.S.Store.names e.store) e.db (w.5).clauses c.clause-clause.result.now c.clause-clause.ensures)
+
+pub unify_clause-requires-clause-room : goal.unify_clause-requires-clause-room
+unify_clause-requires-clause-room g c =
+    let w = c.requires.shows in
+    let e = c.args.self.now in
+    let is = left_clause (g.S.Store.names e.store) e.db (w.5).clauses c.clause-clause.result.now c.clause-clause.ensures in
+    let space = (w.5).space in
+    let next = (w.5).ahead.goes.next in
+    let few = is.few in
+    let count = is.variables in
+    omega (arith, space, next, few, count)
+
 pub returns-clause-unified : goal.returns-clause-unified
 returns-clause-unified g c = λ place s k x xs t.
     (let e = c.args.self.now in

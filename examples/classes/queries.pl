@@ -1,0 +1,5 @@
+class(Class, Pupils).
+class(latin, Pupils).
+pupils(Pupils).
+together(P, Q, Classes).
+together(P, Q, [_,_|_]).
