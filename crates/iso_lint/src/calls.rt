@@ -1,7 +1,9 @@
 //! The procedures that the terms of a text define, declare and call.
-ghost use Rattle.std.specs.Prelude.{◌≡◌, ◌++◌, ◌∷◌, [], option_map, IfOk, OnOk};
+ghost use Rattle.std.specs.Prelude.{◌≡◌, ◌+◌, ◌*◌, ◌<◌, ◌++◌, ◌∷◌, [], reverse, sum_by, option_map, IfOk, OnOk};
+ghost use Rattle.std.specs.List.{flat_map};
 ghost use Rattle.iso_model.specs.Search.Additions as additions;
 ghost use Rattle.iso_model.specs.Search.Keys as model;
+ghost use Rattle.iso_model.specs.Terms.Sizes.{size};
 ghost use Rattle.iso_model.specs.Terms.TermOf.{term_of};
 ghost use Rattle.iso_lint.specs.Calls as spec;
 ghost use Rattle.iso_lint.specs.Indicators.{IsIndicatorStep};
@@ -71,9 +73,19 @@ fn calls_both(name: &str) -> bool
     matches!(name, "," | ";" | "->")
 }
 
-/// Adds the procedures that a goal calls, with itself, behind the others. The error is that memory was refused.
-fn add_called<'t>(goal: &'t Term, keys: &mut Vec<Key<'t>>) -> Result<(), AllocError>
-    ensures { OnOk result (keys_view keys.new.items ≡ keys_view keys.old.items ++ spec.called (term_of goal.entry.now)) }
+/// Adds the procedure of a goal behind the others, unless the goal puts others together, and leaves the goals that it
+/// calls to be gone through. The error is that memory was refused.
+fn add_first_called<'t>(
+    goal: &'t Term,
+    left: &mut Vec<&'t Term>,
+    keys: &mut Vec<Key<'t>>,
+) -> Result<(), AllocError>
+    ensures called { OnOk result (
+        keys_view keys.new.items ++ flat_map (λ t. spec.called (term_of t.now)) (reverse left.new.items)
+        ≡ keys_view keys.old.items ++ (spec.called (term_of goal.entry.now)
+        ++ flat_map (λ t. spec.called (term_of t.now)) (reverse left.old.items))) }
+    ensures smaller { OnOk result (sum_by (λ t. size (term_of t.now)) left.new.items
+        < size (term_of goal.entry.now) + sum_by (λ t. size (term_of t.now)) left.old.items) }
 {
     match shape_of(goal) {
         Shape::Variable => Ok(()),
@@ -85,30 +97,28 @@ fn add_called<'t>(goal: &'t Term, keys: &mut Vec<Key<'t>>) -> Result<(), AllocEr
         Shape::One(name, only) => {
             keys.push(Key { name, arity: 1 })?;
             if calls_one(name) {
-                add_called(only, keys)
-            } else {
-                Ok(())
+                left.push(only)?;
             }
+            Ok(())
         }
         Shape::Two(name, first, second) => {
             if calls_both(name) {
-                add_called(first, keys)?;
-                add_called(second, keys)
+                left.push(second)?;
+                left.push(first)?;
             } else {
                 keys.push(Key { name, arity: 2 })?;
-                Ok(())
             }
+            Ok(())
         }
         Shape::Three(name, first, second, third) => {
             keys.push(Key { name, arity: 3 })?;
             if name == "findall" {
-                add_called(second, keys)
+                left.push(second)?;
             } else if name == "catch" {
-                add_called(first, keys)?;
-                add_called(third, keys)
-            } else {
-                Ok(())
+                left.push(third)?;
+                left.push(first)?;
             }
+            Ok(())
         }
         Shape::Other(name, arity) => {
             keys.push(Key { name, arity })?;
@@ -117,12 +127,28 @@ fn add_called<'t>(goal: &'t Term, keys: &mut Vec<Key<'t>>) -> Result<(), AllocEr
     }
 }
 
+/// Adds the procedures that a goal calls, with itself, behind the others. The error is that memory was refused.
+fn add_called<'t>(alloc: Global, goal: &'t Term, keys: &mut Vec<Key<'t>>) -> Result<(), AllocError>
+    ensures { OnOk result (keys_view keys.new.items ≡ keys_view keys.old.items ++ spec.called (term_of goal.entry.now)) }
+{
+    let mut left = Vec::new(alloc);
+    left.push(goal)?;
+    while let Some(next) = left.pop() {
+        add_first_called(next, &mut left, keys)?;
+    }
+    Ok(())
+}
+
 /// Adds the procedures that the body of a clause calls behind the others. The error is that memory was refused.
-fn add_called_in_body<'t>(clause: &'t Term, keys: &mut Vec<Key<'t>>) -> Result<(), AllocError>
+fn add_called_in_body<'t>(
+    alloc: Global,
+    clause: &'t Term,
+    keys: &mut Vec<Key<'t>>,
+) -> Result<(), AllocError>
     ensures { OnOk result (keys_view keys.new.items ≡ keys_view keys.old.items ++ spec.called (additions.body_of (term_of clause.entry.now))) }
 {
     match body_of(clause) {
-        Some(body) => add_called(body, keys),
+        Some(body) => add_called(alloc, body, keys),
         None => {
             keys.push(Key {
                 name: "true",
@@ -139,9 +165,9 @@ pub fn calls<'t>(alloc: Global, term: &'t Term) -> Result<Vec<Key<'t>>, AllocErr
 {
     let mut keys = Vec::new(alloc);
     match text_term(term) {
-        TextTerm::Clause => add_called_in_body(term, &mut keys)?,
-        TextTerm::Directive(goal) => add_called(goal, &mut keys)?,
-        TextTerm::Initialization(goal) => add_called(goal, &mut keys)?,
+        TextTerm::Clause => add_called_in_body(alloc, term, &mut keys)?,
+        TextTerm::Directive(goal) => add_called(alloc, goal, &mut keys)?,
+        TextTerm::Initialization(goal) => add_called(alloc, goal, &mut keys)?,
         TextTerm::PassedOver => {}
     }
     Ok(keys)
@@ -207,27 +233,52 @@ fn indicator_step(indicators: &Term) -> IndicatorStep<'_>
     }
 }
 
+/// Adds the procedure that an indicator names behind the others; of indicators that are put together it leaves both
+/// parts to be gone through. The error is that memory was refused.
+fn add_first_declared<'t>(
+    indicators: &'t Term,
+    left: &mut Vec<&'t Term>,
+    keys: &mut Vec<Key<'t>>,
+) -> Result<(), AllocError>
+    ensures declared { OnOk result (
+        keys_view keys.new.items ++ flat_map (λ t. spec.declared (term_of t.now)) (reverse left.new.items)
+        ≡ keys_view keys.old.items ++ (spec.declared (term_of indicators.entry.now)
+        ++ flat_map (λ t. spec.declared (term_of t.now)) (reverse left.old.items))) }
+    ensures smaller { OnOk result (sum_by (λ t. 1 + 2 * size (term_of t.now)) left.new.items
+        < 1 + 2 * size (term_of indicators.entry.now) + sum_by (λ t. 1 + 2 * size (term_of t.now)) left.old.items) }
+{
+    match indicator_step(indicators) {
+        IndicatorStep::Both(first, others) => {
+            left.push(others)?;
+            left.push(first)?;
+            Ok(())
+        }
+        IndicatorStep::One(name, arity) => add_indicated(name, arity, keys),
+        IndicatorStep::Nothing => Ok(()),
+    }
+}
+
 /// Adds the procedures that indicators name, in conjunctions and lists, behind the others. The error is that memory
 /// was refused.
-fn add_declared<'t>(indicators: &'t Term, keys: &mut Vec<Key<'t>>) -> Result<(), AllocError>
+fn add_declared<'t>(
+    alloc: Global,
+    indicators: &'t Term,
+    keys: &mut Vec<Key<'t>>,
+) -> Result<(), AllocError>
     ensures { OnOk result (keys_view keys.new.items ≡ keys_view keys.old.items ++ spec.declared (term_of indicators.entry.now)) }
 {
-    let mut rest = indicators;
-    'indicators: loop {
-        match indicator_step(rest) {
-            IndicatorStep::Both(first, others) => {
-                add_declared(first, keys)?;
-                rest = others;
-            }
-            IndicatorStep::One(name, arity) => return add_indicated(name, arity, keys),
-            IndicatorStep::Nothing => return Ok(()),
-        }
+    let mut left = Vec::new(alloc);
+    left.push(indicators)?;
+    while let Some(next) = left.pop() {
+        add_first_declared(next, &mut left, keys)?;
     }
+    Ok(())
 }
 
 /// Adds the procedures that a goal of this name and one argument declares behind the others. The error is that
 /// memory was refused.
 fn add_declared_by<'t>(
+    alloc: Global,
     declaration: &str,
     goal: &'t Term,
     keys: &mut Vec<Key<'t>>,
@@ -235,7 +286,9 @@ fn add_declared_by<'t>(
     ensures { OnOk result (keys_view keys.new.items ≡ keys_view keys.old.items ++ spec.declared_goal declaration.now (term_of goal.entry.now)) }
 {
     match shape_of(goal) {
-        Shape::One(name, indicators) if name == declaration => add_declared(indicators, keys),
+        Shape::One(name, indicators) if name == declaration => add_declared(
+            alloc, indicators, keys,
+        ),
         Shape::One(_, _) => Ok(()),
         Shape::Variable => Ok(()),
         Shape::Integer(_) => Ok(()),
@@ -257,7 +310,7 @@ pub fn declares<'t>(
 {
     let mut keys = Vec::new(alloc);
     if let TextTerm::Directive(goal) = text_term(term) {
-        add_declared_by(declaration, goal, &mut keys)?;
+        add_declared_by(alloc, declaration, goal, &mut keys)?;
     }
     Ok(keys)
 }

@@ -1,6 +1,5 @@
 //! Procedures that are called and not defined.
 ghost use Rattle.std.specs.Prelude.{◌≡◌, ◌++◌, List, map, IfOk, OnOk};
-ghost use Rattle.std.specs.List.{list_any};
 ghost use Rattle.iso_model.specs.Search.Keys as model;
 ghost use Rattle.iso_lint.specs.FindingViews.{finding_of};
 ghost use Rattle.iso_lint.specs.Findings as spec;
@@ -10,27 +9,22 @@ ghost use Rattle.iso_lint.specs.Tables.{Knows};
 use crate::findings::{Finding, What, named_procedure};
 use crate::keys::Key;
 use crate::tables::Table;
+use indexmap::IndexSet;
 use std::alloc::{AllocError, Global};
-
-/// Whether the procedure is one of these.
-fn is_among(keys: &[Key<'_>], key: Key<'_>) -> bool
-    ensures { result ≡ list_any (λ j. model.same_key j (key_view key.entry)) (keys_view keys.now) }
-{
-    keys.contains(&key)
-}
 
 /// Notes a procedure unless it is known, or there. The error is that memory was refused.
 fn note_unknown<'t>(
     known: &Table<'_>,
-    keys: &mut Vec<Key<'t>>,
+    noted: &mut IndexSet<Key<'t>>,
     key: Key<'t>,
 ) -> Result<(), AllocError>
-    ensures { OnOk result ((ks : List model.Key) → Knows known.now.numbers ks → keys_view keys.new.items ≡ spec.noted_unknown ks (keys_view keys.old.items) (key_view key.entry)) }
+    ensures { OnOk result ((ks : List model.Key) → Knows known.now.numbers ks
+        → keys_view noted.new.keys ≡ spec.noted_unknown ks (keys_view noted.old.keys) (key_view key.entry)) }
 {
-    if known.knows(key) || is_among(keys, key) {
+    if known.knows(key) {
         return Ok(());
     }
-    keys.push(key)?;
+    noted.insert(key)?;
     Ok(())
 }
 
@@ -39,10 +33,11 @@ fn unknown_of<'t>(
     alloc: Global,
     known: &Table<'_>,
     keys: &[Key<'t>],
-) -> Result<Vec<Key<'t>>, AllocError>
-    ensures { IfOk result (λ found. (ks : List model.Key) → Knows known.now.numbers ks → keys_view found.items ≡ spec.unknown_of ks (keys_view keys.now)) }
+) -> Result<IndexSet<Key<'t>>, AllocError>
+    ensures { IfOk result (λ found. (ks : List model.Key) → Knows known.now.numbers ks
+        → keys_view found.keys ≡ spec.unknown_of ks (keys_view keys.now)) }
 {
-    let mut found = Vec::new(alloc);
+    let mut found = IndexSet::new(alloc);
     for key in keys {
         note_unknown(known, &mut found, *key)?;
     }
@@ -62,7 +57,7 @@ pub fn add_unknown(
         → map finding_of found.new.items ≡ map finding_of found.old.items ++ map (spec.unknown_at start) (spec.unknown_of ks (keys_view keys.now))) }
 {
     let unknown = unknown_of(alloc, known, keys)?;
-    for key in &unknown {
+    for key in unknown.as_slice() {
         let what = What::Unknown(named_procedure(alloc, *key)?);
         found.push(Finding { start, what })?;
     }

@@ -7,4 +7,5 @@ use Rattle.iso_lint.specs.Tables.{Knows}
 use Rattle.iso_lint.proofs.unknown.unknown_of.Given as goal
 
 abbrev pub invariant-loop-key : goal.invariant-loop-key
-invariant-loop-key l = (ks : List Key) → Knows l.known.numbers ks → keys_view l.found.items ≡ spec.unknown_of ks (keys_view (take l.key-index l.keys))
+invariant-loop-key l = (ks : List Key) → Knows l.known.numbers ks
+    → keys_view l.found.keys ≡ spec.unknown_of ks (keys_view (take l.key-index l.keys))
