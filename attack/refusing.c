@@ -1,5 +1,5 @@
-/* Counts what a program asks for of memory, and refuses one request: the one of the number that REFUSE says, the first being 1.
-   At the end it writes into the file that REQUESTS names how many there were. */
+/* Counts what a program asks for of memory, and refuses one request: the one of the number that REFUSE says, the first
+   being 1. At the end it writes into the file that REQUESTS names how many there were. */
 #include <stdio.h>
 #include <stdlib.h>
 

@@ -1,12 +1,22 @@
-"""Sessions of the program, and the rules that the output of each must keep (docs/LANGUAGE.md, "What a session writes" and "Statuses")."""
+"""Sessions of the program, and the rules that the output of each must keep (docs/LANGUAGE.md, "What a session writes"
+and "Statuses")."""
 import os, re, subprocess, tomllib
 
 TOP = os.path.dirname(os.path.dirname(os.path.abspath(__file__)))
 PROLOG = os.environ.get("PROLOG", os.path.join(TOP, "prolog"))
+ENGINES = {"both": ["plain", "wam"], "plain": ["plain"], "wam": ["wam"]}
 
 LINE = re.compile(
-    r"syntax error in clause [0-9]+|clause [0-9]+ (refused: .+|skipped)|directive [0-9]+ (failed|refused: .+|stopped: budget)"
-    r"|answer (?P<answer>[0-9]+): .+|(?P<end>end: (no more|budget|error .+|syntax error|halt (?P<halt>[0-9]+)|(?P<limit>heap full|frames full|no memory)))")
+    r"syntax error in clause [0-9]+|clause [0-9]+ (refused: .+|skipped)"
+    r"|directive [0-9]+ (failed|refused: .+|stopped: budget)|answer (?P<answer>[0-9]+): .+"
+    r"|(?P<end>end: (no more|budget|error .+|syntax error|halt (?P<halt>[0-9]+)"
+    r"|(?P<limit>heap full|frames full|no memory)))")
+
+
+def add_words(parser):
+    """The words of each script: how many sessions run side by side, and with which engines."""
+    parser.add_argument("-j", type=int, default=os.cpu_count(), metavar="JOBS")
+    parser.add_argument("--engine", choices=list(ENGINES), default="both")
 
 
 def run(folder, text, queries, options):
@@ -60,7 +70,8 @@ def broken(text, queries, writes, status, out, err):
 
 
 def rows_of(name):
-    """The sessions of a file of crates/session_rows/data, but those with a limit of 0, which is no word of the program."""
+    """The sessions of a file of crates/session_rows/data, but those with a limit of 0, which is no word of the
+    program."""
     with open(os.path.join(TOP, "crates", "session_rows", "data", name), "rb") as file:
         data = tomllib.load(file)
     for row in data["session"]:
@@ -69,13 +80,39 @@ def rows_of(name):
         yield {"text": data.get("text", ""), "queries": "", "output": "", "status": 0, **row}
 
 
+def with_engines(row, engines):
+    """The session, once for each of these engines that it is for."""
+    return [dict(row, engine=name) for name in engines if row.get("engine", name) == name]
+
+
 def options_of(row):
-    return [word for name in ("budget", "cells", "frames", "engine") if name in row for word in ("--" + name, str(row[name]))]
+    words = [("--" + name, str(row[name])) for name in ("budget", "cells", "frames", "engine") if name in row]
+    return [word for pair in words for word in pair]
 
 
 def is_beginning(out, end, whole):
-    """What was written, but for its last line, which is this end, is a beginning of the whole; where it ends within a line a newline stands before that line."""
+    """What was written, but for its last line, which is this end, is a beginning of the whole by whole lines. Only a
+    line that goals write may be cut, and a newline stands behind it then."""
     if not out.endswith(end):
         return False
     begun = out[: -len(end)]
-    return whole.startswith(begun) or (begun.endswith(b"\n") and whole.startswith(begun[:-1]))
+    if begun and not begun.endswith(b"\n"):
+        return False
+    if whole.startswith(begun):
+        return True
+    cut = begun[:-1]
+    start = cut.rfind(b"\n") + 1
+    line = whole[start:].split(b"\n")[0].decode("utf-8", "replace")
+    return start < len(cut) and whole.startswith(cut) and LINE.fullmatch(line) is None
+
+
+def difference(one, other):
+    """What is wrong with two engines' runs of a session, or None. Both give the same status, output and messages, or
+    a limit ended one of them, and it wrote a beginning of the other's output."""
+    if one == other:
+        return None
+    for (status, out, _), (_, whole, _) in ((one, other), (other, one)):
+        limit = re.search(rb"end: (heap full|frames full|no memory)\n\Z", out)
+        if status == 3 and limit and is_beginning(out, limit[0], whole):
+            return None
+    return "the engines differ"

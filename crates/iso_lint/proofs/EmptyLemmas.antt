@@ -1,7 +1,7 @@
 -- Where tokens stop beginning a clause: no token begins one already.
 use Rattle.std.proofs.Common.{◌≡◌, ℕ, Bool, true, [], take, length, refl}
 use Rattle.iso_model.specs.Syntax.Reading.{clause_of, term, operand, continued, climb, operator_behind}
-use Rattle.iso_lint.specs.declared.settings.Settings.{Settings}
+use Rattle.iso_lint_core.specs.declared.settings.Settings.{Settings}
 use Rattle.iso_lint.specs.Completions.{begins_clause}
 use Rattle.iso_lint.specs.Faults.{ClausesStopAtFaults}
 use Rattle.iso_lint.proofs.BoundaryLemmas.{boundaries}

@@ -4,7 +4,7 @@ use Rattle.std.proofs.lemmas.List.{length-map}
 use Rattle.iso_model.specs.Syntax.Token.{Shown}
 use Rattle.iso_token.specs.declared.kinds.Token.{Token}
 use Rattle.iso_token.specs.Shows.{shown}
-use Rattle.iso_lint.specs.declared.settings.Settings.{Settings}
+use Rattle.iso_lint_core.specs.declared.settings.Settings.{Settings}
 use Rattle.iso_lint.specs.Completions.{begins_clause}
 use Rattle.iso_lint.specs.Boundaries.{boundary_from}
 use Rattle.iso_lint.specs.Faults.{Fault, Expected, begin_boundary}

@@ -3,7 +3,7 @@ use Rattle.std.proofs.Common.{◌≡◌, ◌<◌, ◌+◌, ℕ, List, [], ◌∷
 use Rattle.std.proofs.lemmas.Grind.{common_steps}
 use Rattle.indexmap.specs.IndexMap.{IndexMap}
 use Rattle.iso_model.specs.Search.Keys as model
-use Rattle.iso_lint.specs.declared.keys.Key.{Key}
+use Rattle.iso_lint_core.specs.declared.keys.Key.{Key}
 use Rattle.iso_lint.specs.declared.items.Item.{Item}
 use Rattle.iso_lint.specs.ItemViews.{item_of}
 use Rattle.iso_lint.specs.Tables.{AreSeen}

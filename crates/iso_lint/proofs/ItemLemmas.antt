@@ -1,10 +1,10 @@
 -- The items of a text, a part further.
 use Rattle.std.proofs.Common.{◌≡◌, ◌≤◌, ◌<◌, ℕ, zero, suc, List, [], ◌∷◌, ◌++◌, length, map, ap, ◌∙◌, refl, sym, arith, append_assoc, append-nil}
 use Rattle.iso_model.specs.Syntax.Token.{Shown}
-use Rattle.iso_lint.specs.declared.settings.Settings.{Settings}
+use Rattle.iso_lint_core.specs.declared.settings.Settings.{Settings}
 use Rattle.iso_lint.specs.declared.cuts.Cut.{Cut}
 use Rattle.iso_lint.specs.Cuts.{IsCut, part_with}
-use Rattle.iso_lint.specs.Settings.{initial_settings}
+use Rattle.iso_lint_core.specs.Settings.{initial_settings}
 use Rattle.iso_lint.specs.Parts as parts
 use Rattle.iso_lint.specs.Parts.{parts_from, then_parts, behind_read, term_in}
 use Rattle.iso_lint.specs.Findings.{Item, item}

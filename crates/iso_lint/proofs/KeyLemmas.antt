@@ -8,9 +8,9 @@ use Rattle.std.proofs.lemmas.List.Sums.{fold-append}
 use Rattle.std.proofs.lemmas.Slice.Eq.{bytes_eq-Decides}
 use Rattle.indexmap.specs.IndexSet.{insert_key}
 use Rattle.iso_model.specs.Search.Keys as model
-use Rattle.iso_lint.specs.declared.keys.Key.{Key}
+use Rattle.iso_lint_core.specs.declared.keys.Key.{Key}
 use Rattle.iso_lint.specs.Findings.{noted, noted_unknown, unknown_of}
-use Rattle.iso_lint.specs.KeyViews.{key_view, keys_view}
+use Rattle.iso_lint_core.specs.KeyViews.{key_view, keys_view}
 use Rattle.iso_lint.specs.Tables.{key_eq}
 use Rattle.iso_lint.proofs.ListLemmas.{map_more}
 

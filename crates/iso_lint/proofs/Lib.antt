@@ -1,13 +1,10 @@
 pub mod PlaceLemmas
 pub mod ListLemmas
 pub mod CountLemmas
-pub mod NameLemmas
-pub mod SettingLemmas
 pub mod CutLemmas
 pub mod BoundaryLemmas
 pub mod FaultLemmas
 pub mod EmptyLemmas
-pub mod OtherLemmas
 pub mod ItemLemmas
 pub mod KeyLemmas
 pub mod FoundLemmas

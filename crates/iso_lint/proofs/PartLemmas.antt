@@ -6,7 +6,7 @@ use Rattle.iso_model.specs.Syntax.Grammar.{ReadTerm}
 use Rattle.iso_model.specs.Syntax.Reading.{◌>>=◌, clause_of}
 use Rattle.iso_model.specs.Syntax.Clauses.{is_end, behind_token, split_clause, behind_by, behind_clause, next_clause}
 use Rattle.iso_model.specs.Syntax.Items.{Taken, item_of}
-use Rattle.iso_lint.specs.declared.settings.Settings.{Settings}
+use Rattle.iso_lint_core.specs.declared.settings.Settings.{Settings}
 use Rattle.iso_lint.specs.Parts.{cut, ended, clause_in, part_of, PartsAreItems}
 
 -- the cut, as the model splits

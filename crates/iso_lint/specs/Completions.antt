@@ -3,7 +3,7 @@ use Rattle.std.specs.Prelude.{ℕ, Bool, ◌||◌, if◌then◌else◌, List, []
 use Rattle.iso_model.specs.Syntax.Token.{Shown, PunctToken, VariableToken}
 use Rattle.iso_model.specs.Syntax.Grammar.{is_mark}
 use Rattle.iso_model.specs.Syntax.Reading.{clause_of}
-use Rattle.iso_lint.specs.declared.settings.Settings.{Settings}
+use Rattle.iso_lint_core.specs.declared.settings.Settings.{Settings}
 
 -- the mark of this text behind layout, and the variable `_`
 abbrev pub mark : List ℕ → Shown

@@ -3,7 +3,7 @@ use Rattle.std.specs.Prelude.{◌≡◌, List, map}
 use Rattle.iso_model.specs.Syntax.Token.{Shown}
 use Rattle.iso_token.specs.Shows.{shown}
 use Rattle.iso_lint.specs.Parts as parts
-use Rattle.iso_lint.specs.declared.settings.Settings.{Settings}
+use Rattle.iso_lint_core.specs.declared.settings.Settings.{Settings}
 use Rattle.iso_lint.specs.declared.cuts.Cut.{Cut}
 
 -- this is the cut of these tokens, and these are left behind it

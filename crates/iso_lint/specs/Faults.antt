@@ -2,7 +2,7 @@
 use Rattle.std.specs.Prelude.{◌≡◌, ◌≤◌, ◌<◌, ℕ, ◌+◌, Bool, true, false, List, [], ◌∷◌, take, length, Option, Some, None, is_some, unwrap_or, codes}
 use Rattle.std.specs.List.{slice_get}
 use Rattle.iso_model.specs.Syntax.Token.{Shown}
-use Rattle.iso_lint.specs.declared.settings.Settings.{Settings}
+use Rattle.iso_lint_core.specs.declared.settings.Settings.{Settings}
 use Rattle.iso_lint.specs.Completions.{mark, anonymous, closers, goes_on_with, begins_clause}
 use Rattle.iso_lint.specs.Boundaries.{boundary}
 use Rattle.iso_lint.specs.Parts.{Part}

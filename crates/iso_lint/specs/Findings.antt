@@ -9,7 +9,7 @@ use Rattle.iso_model.specs.Syntax.Tokens.{tokens}
 use Rattle.iso_lint.specs.Parts.{Part, term_in, parts}
 use Rattle.iso_lint.specs.Once.{once}
 use Rattle.iso_lint.specs.Faults.{Fault, fault_in, start_or}
-use Rattle.iso_lint.specs.Calls as calls
+use Rattle.iso_lint_core.specs.Calls as calls
 
 pub data What : Type 0 where
   -- this syntax error

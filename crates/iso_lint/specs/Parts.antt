@@ -7,8 +7,8 @@ use Rattle.iso_model.specs.Syntax.Reading.{clause_of}
 use Rattle.iso_model.specs.Syntax.Clauses.{is_end}
 use Rattle.iso_model.specs.Syntax.Items.{next_item, item_of}
 use Rattle.iso_model.specs.Terms.Trees.{Tree}
-use Rattle.iso_lint.specs.declared.settings.Settings.{Settings}
-use Rattle.iso_lint.specs.Settings.{initial_settings, behind_term}
+use Rattle.iso_lint_core.specs.declared.settings.Settings.{Settings}
+use Rattle.iso_lint_core.specs.Settings.{initial_settings, behind_term}
 
 -- The tokens before the next end token, or all where there is none; where that end token begins; and the tokens
 -- behind it.

@@ -4,8 +4,8 @@ use Rattle.std.specs.Str.{bytes_eq}
 use Rattle.std.specs.List.{list_any}
 use Rattle.indexmap.specs.IndexMap.{IndexMap, get_by}
 use Rattle.iso_model.specs.Search.Keys as model
-use Rattle.iso_lint.specs.declared.keys.Key.{Key}
-use Rattle.iso_lint.specs.KeyViews.{key_view}
+use Rattle.iso_lint_core.specs.declared.keys.Key.{Key}
+use Rattle.iso_lint_core.specs.KeyViews.{key_view}
 use Rattle.iso_lint.specs.Findings.{Clause, last_of, previous_of}
 
 -- whether two keys are the same, as the table compares them

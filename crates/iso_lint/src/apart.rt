@@ -4,12 +4,12 @@ ghost use Rattle.iso_model.specs.Search.Keys as model;
 ghost use Rattle.iso_lint.specs.FindingViews.{finding_of};
 ghost use Rattle.iso_lint.specs.Findings as spec;
 ghost use Rattle.iso_lint.specs.Findings.{Clause, is_previous, with_clause};
-ghost use Rattle.iso_lint.specs.KeyViews.{key_view};
+ghost use Rattle.iso_lint_core.specs.KeyViews.{key_view};
 ghost use Rattle.iso_lint.specs.Tables.{AreSeen, Knows};
 
 use crate::findings::{Finding, What, named_procedure};
-use crate::keys::Key;
 use crate::tables::Table;
+use iso_lint_core::keys::Key;
 use std::alloc::{AllocError, Global};
 
 /// The clauses of a text so far.

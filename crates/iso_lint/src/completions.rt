@@ -7,7 +7,7 @@ ghost use Rattle.iso_lint.specs.Completions.{behind_bracket, closers, goes_on_wi
 ghost use Rattle.iso_ops.specs.Entries.{text_of};
 ghost use Rattle.iso_token.specs.Shows.{shown};
 
-use crate::settings::Settings;
+use iso_lint_core::settings::Settings;
 use iso_read::{ReadFault, read_tokens};
 use iso_token::{Kind, Token};
 use std::alloc::{AllocError, Global};

@@ -10,7 +10,7 @@ ghost use Rattle.iso_token.specs.Shows.{shown};
 
 use crate::completions::{anonymous, begins_clause, closers_of, goes_on_with, mark};
 use crate::cuts::Cut;
-use crate::settings::Settings;
+use iso_lint_core::settings::Settings;
 use iso_token::Token;
 use std::alloc::{AllocError, Global};
 

@@ -3,7 +3,7 @@ ghost use Rattle.std.specs.Prelude.{◌≡◌, ◌++◌, map, option_map, IfOk, 
 ghost use Rattle.iso_model.specs.Terms.TermOf.{term_of};
 ghost use Rattle.iso_lint.specs.Cuts.{part_with};
 ghost use Rattle.iso_lint.specs.FindingViews.{finding_of, procedure_of};
-ghost use Rattle.iso_lint.specs.KeyViews.{key_view};
+ghost use Rattle.iso_lint_core.specs.KeyViews.{key_view};
 ghost use Rattle.iso_lint.specs.Once.{once};
 ghost use Rattle.iso_lint.specs.Findings as spec;
 ghost use Rattle.iso_lint.specs.Parts as parts;
@@ -11,9 +11,9 @@ ghost use Rattle.iso_token.specs.Shows.{shown};
 
 use crate::cuts::Cut;
 use crate::faults::{Fault, fault_in};
-use crate::keys::Key;
 use crate::once::variables_once;
-use crate::settings::Settings;
+use iso_lint_core::keys::Key;
+use iso_lint_core::settings::Settings;
 use iso_model::Term;
 use iso_token::Token;
 use std::alloc::{AllocError, Global};

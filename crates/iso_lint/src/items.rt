@@ -6,13 +6,13 @@ ghost use Rattle.iso_lint.specs.Cuts.{part_with};
 ghost use Rattle.iso_lint.specs.Findings as spec;
 ghost use Rattle.iso_lint.specs.ItemViews.{item_of};
 ghost use Rattle.iso_lint.specs.Parts as parts;
-ghost use Rattle.iso_lint.specs.Settings.{initial_settings};
+ghost use Rattle.iso_lint_core.specs.Settings.{initial_settings};
 ghost use Rattle.iso_token.specs.Shows.{shown};
 
 use crate::cuts::{Cut, next_cut};
 use crate::faults::{start_or, token_at};
 use crate::findings::{Finding, found_by};
-use crate::settings::Settings;
+use iso_lint_core::settings::Settings;
 use iso_model::Term;
 use iso_read::{ReadFault, read_tokens};
 use iso_token::Tokens;
@@ -62,15 +62,13 @@ fn item_in<'t>(
     })
 }
 
-impl Settings {
-    /// Sets what a part of a text sets that has this term. The error is that memory was refused.
-    fn set_by(&mut self, alloc: Global, term: &Option<Term>) -> Result<(), AllocError>
-        ensures { OnOk result (self.new ≡ parts.behind_read (option_map term_of term.now) self.old) }
-    {
-        match term {
-            Some(term) => self.set_by_term(alloc, term),
-            None => Ok(()),
-        }
+/// Sets what a part of a text sets that has this term. The error is that memory was refused.
+fn set_by(alloc: Global, settings: &mut Settings, term: &Option<Term>) -> Result<(), AllocError>
+    ensures { OnOk result (settings.new ≡ parts.behind_read (option_map term_of term.now) settings.old) }
+{
+    match term {
+        Some(term) => settings.set_by_term(alloc, term),
+        None => Ok(()),
     }
 }
 
@@ -84,7 +82,7 @@ pub fn items_of<'t>(alloc: Global, text: &'t str) -> Result<Vec<Item<'t>>, Alloc
     let mut items = Vec::new(alloc);
     while let Some(part) = next_cut(alloc, &mut tokens)? {
         let item = item_in(alloc, &settings, &part, text.len())?;
-        settings.set_by(alloc, &item.term)?;
+        set_by(alloc, &mut settings, &item.term)?;
         items.push(item)?;
     }
     Ok(items)

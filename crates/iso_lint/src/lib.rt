@@ -4,20 +4,15 @@
 #![tactic(auto)]
 
 mod apart;
-mod calls;
 mod completions;
 mod cuts;
 mod faults;
 mod findings;
 mod items;
-mod keys;
 mod laws;
 mod messages;
-mod names;
 mod once;
 mod places;
-mod settings;
-mod shapes;
 mod tables;
 mod texts;
 mod unknown;

@@ -3,11 +3,11 @@ ghost use Rattle.std.specs.Prelude.{◌≡◌, ◌||◌, ◌++◌, ◌∷◌, []
 ghost use Rattle.std.specs.List.{list_any};
 ghost use Rattle.iso_model.specs.Search.Keys as model;
 ghost use Rattle.iso_lint.specs.Findings.{Clause, last_of, is_known};
-ghost use Rattle.iso_lint.specs.KeyViews.{key_view};
+ghost use Rattle.iso_lint_core.specs.KeyViews.{key_view};
 ghost use Rattle.iso_lint.specs.Tables.{StandsFor, Knows};
 
-use crate::keys::Key;
 use indexmap::IndexMap;
+use iso_lint_core::keys::Key;
 use iso_model::is_built_in;
 use std::alloc::{AllocError, Global};
 

@@ -3,22 +3,22 @@ ghost use Rattle.std.specs.Prelude.{◌≡◌, ◌++◌, List, map, option_map, 
 ghost use Rattle.iso_model.specs.Search.Keys as model;
 ghost use Rattle.iso_model.specs.Syntax.Tokens.{tokens};
 ghost use Rattle.iso_model.specs.Terms.TermOf.{term_of};
-ghost use Rattle.iso_lint.specs.Calls as calls;
+ghost use Rattle.iso_lint_core.specs.Calls as calls;
 ghost use Rattle.iso_lint.specs.FindingViews.{finding_of, what_of};
 ghost use Rattle.iso_lint.specs.Findings as spec;
 ghost use Rattle.iso_lint.specs.Findings.{Clause};
 ghost use Rattle.iso_lint.specs.ItemViews.{item_of};
-ghost use Rattle.iso_lint.specs.KeyViews.{key_view, keys_view};
+ghost use Rattle.iso_lint_core.specs.KeyViews.{key_view, keys_view};
 ghost use Rattle.iso_lint.specs.Parts as parts;
 ghost use Rattle.iso_lint.specs.Tables.{AreSeen, Knows};
 
 use crate::apart::Seen;
-use crate::calls::{calls, declares, defined};
 use crate::findings::{Finding, What, named_procedure};
 use crate::items::{Item, items_of};
-use crate::keys::Key;
 use crate::tables::Table;
 use crate::unknown::add_unknown;
+use iso_lint_core::calls::{calls, declares, defined};
+use iso_lint_core::keys::Key;
 use iso_model::Term;
 use std::alloc::{AllocError, Global};
 

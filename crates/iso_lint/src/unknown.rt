@@ -3,13 +3,13 @@ ghost use Rattle.std.specs.Prelude.{◌≡◌, ◌++◌, List, map, IfOk, OnOk};
 ghost use Rattle.iso_model.specs.Search.Keys as model;
 ghost use Rattle.iso_lint.specs.FindingViews.{finding_of};
 ghost use Rattle.iso_lint.specs.Findings as spec;
-ghost use Rattle.iso_lint.specs.KeyViews.{key_view, keys_view};
+ghost use Rattle.iso_lint_core.specs.KeyViews.{key_view, keys_view};
 ghost use Rattle.iso_lint.specs.Tables.{Knows};
 
 use crate::findings::{Finding, What, named_procedure};
-use crate::keys::Key;
 use crate::tables::Table;
 use indexmap::IndexSet;
+use iso_lint_core::keys::Key;
 use std::alloc::{AllocError, Global};
 
 /// Notes a procedure unless it is known, or there. The error is that memory was refused.

@@ -53,6 +53,7 @@ use Rattle.iso_search.specs.Faults.{Throws}
 use Rattle.iso_search.specs.Moved.{Moved}
 use Rattle.iso_search.specs.Stays.{Stays}
 use Rattle.iso_search.specs.Worlds.{IsWorld}
+use Rattle.iso_search.specs.declared.calls.Next.TheVariants as calls
 use Rattle.iso_search.specs.declared.search.Move.{Move}
 use Rattle.iso_search.specs.declared.search.Move.TheVariants as move
 use Rattle.iso_search.proofs.AheadLemmas.{ahead_grown}
@@ -65,11 +66,13 @@ use Rattle.iso_search.proofs.WorldLemmas.{same_texts}
 use Rattle.iso_search.proofs.Moves.Value.{IsAtValue, TookStepAt, took_step, value_fails, value_holds, value_raises, value_refused_reply, value_spends, value_unbound}
 use Rattle.iso_machine.specs.declared.framed.Framed.{Framed}
 use Rattle.iso_machine.specs.Arithmetic.{HasComputed}
+use Rattle.iso_machine.specs.Came.{CameTo}
 use Rattle.iso_machine.specs.Lists.{IsList, KeepsFrames, as_much, cost_at, extent_of, list_more, list_words, stack_of}
 use Rattle.iso_machine.specs.Engines.{Engine, framed}
 use Rattle.iso_machine.proofs.FrameLemmas.{adds_keeps, adds_same}
 use Rattle.iso_machine.specs.Wholes.{whole_chain, whole_list}
 use Rattle.iso_machine.proofs.InstructionMoves.{code_ahead}
+use Rattle.iso_machine.proofs.WentMoves.{came_moved, came_refused}
 
 -- ---- the list behind the goal
 
@@ -125,6 +128,23 @@ module _ {S W M : Type 0} (atom_word : ℕ → W) {p : Present W} (l : Framed S 
         let both = sym is ∙ first.is in
         let lists : behind ≡ first.behind = cc in
         subst (λ (ms : List Member). Chain atom_word p (stack_of l) (Some (below r)) ms) (sym lists) first.list
+
+module _ {S W M : Type 0} (g : Ghosts S W M) (atom_word : ℕ → W) (mid new : Engine S W M) where
+  -- where a ball is thrown the engine goes on
+  thrown_goes : (f : Fault) (place : Option Rest) (m : Move) → Throws g (framed atom_word) mid f place (Ok m) new
+      → m ≡ move.Goes
+  thrown_goes (fault.Raise ball) place m throws =
+      let goes = throws.0 in
+      cc
+  thrown_goes fault.Full place m throws = absurd (let none = throws.0 in cc)
+  thrown_goes fault.NoMemory place m throws = absurd (let none = throws.0 in cc)
+
+  -- behind a fault as many steps are left
+  pub fault_steps : (f : Fault) (place : Option Rest) (result : Result Move StoreFault)
+      → Throws g (framed atom_word) mid f place result new → new.steps ≡ mid.steps
+  fault_steps (fault.Raise ball) place result throws = ap (λ (x : Engine S W M). x.steps) throws.2
+  fault_steps fault.Full place result throws = ap (λ (x : Engine S W M). x.steps) throws.1
+  fault_steps fault.NoMemory place result throws = ap (λ (x : Engine S W M). x.steps) throws.1
 
 module _ {S W M : Type 0} (g : Ghosts S W M) (atom_word : ℕ → W) where
   -- ---- the goal that comes first
@@ -359,3 +379,19 @@ module _ {S W M : Type 0} (g : Ghosts S W M) (atom_word : ℕ → W) where
         rw (throws.0, throws.1)
         (moved_not g (framed atom_word) (Err store_fault.NoMemory) refl refused tt
         (stays_behind c (stays_same g mid)))
+
+    -- a ball was thrown
+    pub thrown_came : (f : Fault) → answer ≡ Err f → (m : Move) → (new : Engine S W M)
+        → Throws g (framed atom_word) mid f (Some (below r)) (Ok m) new → Stays g mid new
+        → CameTo g atom_word e (Ok calls.Went) new
+    thrown_came f is m new throws stays =
+        came_moved g atom_word
+        (subst (λ (x : Move). Moved g (framed atom_word) (λ t. Unit {0}) e (Ok x) new)
+        (thrown_goes g atom_word mid new f (Some (below r)) m throws)
+        (fault_moved f is (Ok m) new throws stays))
+
+    -- another fault
+    pub fault_came : (f : Fault) → answer ≡ Err f → (x : StoreFault) → (new : Engine S W M)
+        → Throws g (framed atom_word) mid f (Some (below r)) (Err x) new → Stays g mid new
+        → CameTo g atom_word e (Err x) new
+    fault_came f is x new throws stays = came_refused g atom_word x (fault_moved f is (Err x) new throws stays)

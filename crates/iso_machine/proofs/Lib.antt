@@ -27,3 +27,4 @@ pub mod PlaceLemmas
 pub mod SplitMoves
 pub mod StepLemmas
 pub mod TryMoves
+pub mod WentMoves

@@ -1,11 +1,14 @@
 -- The instruction that comes first, where it calls no goal.
-use Rattle.std.proofs.Common.{◌≡◌, ◌≢◌, ℕ, List, Some, None, Option, Result, Ok, Err, get_or, refl, sym, ◌∙◌, ap, subst}
-use Rattle.std.specs.Prelude.{IfOk}
+use Rattle.std.proofs.Common.{◌≡◌, ◌≢◌, ℕ, List, Some, None, Option, Result, Ok, Err, inl, inr, refl, sym, ◌∙◌, ap, subst}
+use Rattle.std.specs.Prelude.{IfOk, ◌⊎◌}
 use Rattle.std.specs.Global.{Global}
+use Rattle.std.specs.List.{slice_get}
 use Rattle.std.specs.declared.rc.Rc.{Rc}
 use Rattle.iso_model.specs.Search.Walker.{State}
 use Rattle.iso_store_core.specs.declared.stores.Store.{Ghosts}
+use Rattle.iso_compile.specs.declared.control.Mark.{Mark}
 use Rattle.iso_instructions.specs.declared.instructions.Code.{Code}
+use Rattle.iso_instructions.specs.declared.instructions.Goal as loaded
 use Rattle.iso_instructions.specs.declared.instructions.Instruction.{Instruction}
 use Rattle.iso_instructions.specs.declared.instructions.Instruction.TheVariants.{Call, Execute, Is, Compare, Proceed, Cut, GetLevel, TryElse, Jump}
 use Rattle.iso_frames.specs.declared.frames.Rest.{Rest}
@@ -15,8 +18,8 @@ use Rattle.iso_frames.specs.declared.frames.Work.TheVariants.{Clause}
 use Rattle.iso_frames.specs.declared.frames.Next.TheVariants as next
 use Rattle.iso_frames.specs.Running.{Stops}
 use Rattle.iso_frames.specs.Frames.{StopsAt}
-use Rattle.iso_environments.specs.Answering.{IsArithmetic}
-use Rattle.iso_search_core.proofs.StandingLemmas.{item_is}
+use Rattle.iso_environments.specs.Answering.{IsArithmetic, IsArithmeticThere}
+use Rattle.iso_environments.specs.Putting.{IsCallThere}
 use Rattle.iso_search_core.specs.declared.nows.Now.TheVariants as now
 use Rattle.iso_search_core.specs.declared.lists.Lists as lists
 use Rattle.iso_store_core.specs.declared.shapes.StoreFault.{StoreFault}
@@ -28,9 +31,11 @@ use Rattle.iso_search.specs.Nexts.{ComesNext, WentOrFull}
 use Rattle.iso_search.proofs.EndLemmas.{next_is}
 use Rattle.iso_machine.specs.Lists.{stack_of}
 use Rattle.iso_machine.specs.Engines.{Engine, framed}
-use Rattle.iso_machine.specs.Instructions.{IsStep, IsStepThere}
-use Rattle.iso_machine.specs.Steps.{IsNoCall, IsOtherThere, IsNeitherThere}
-use Rattle.iso_environments.proofs.LeveledLemmas.{frame_read}
+use Rattle.iso_machine.specs.declared.goal_places.Act.{Act}
+use Rattle.iso_machine.specs.declared.goal_places.Act.TheVariants as act
+use Rattle.iso_machine.specs.Instructions.{IsInstructionThere, IsStep, IsStepThere}
+use Rattle.iso_machine.specs.Steps.{ActsThere, IsNoCall, IsOtherThere, IsNeitherThere}
+use Rattle.iso_machine.proofs.LevelMoves.{instruction_there}
 
 -- one that goes on is a step
 step_of : (i : Instruction) → IsNoCall i → (IsArithmetic i → ⊥) → i ≢ Proceed → ((l : ℕ) → i ≢ Jump l) → IsStep i
@@ -51,20 +56,65 @@ no_arithmetic (Is left steps) sets compares is = sets left steps refl
 no_arithmetic (Compare comparison steps) sets compares is = compares comparison steps refl
 no_arithmetic i sets compares is = is
 
--- the instruction that was read is the one that is there
-pub other_read : (frames : List Frame) (r : Rest) (h : IsOtherThere frames r) (read : Frame)
-    → read ≡ get_or frames r.frame read → (other : Rc Code Global) (older : Option Level)
-    → read.work ≡ Clause other older → (body : Code) → body ≡ other.value → (i : Instruction)
-    → i ≡ get_or body.body.items r.address i → i ≡ h.instruction
-other_read frames r h read item other older works body value i there =
-    let t = h.there in
-    let same : read ≡ t.frame = frame_read frames r.frame t.frame read t.clause.at item in
-    let both : Clause other older ≡ Clause t.code t.level =
-    sym works ∙ (ap (λ (x : Frame). x.work) same ∙ t.clause.work) in
-    let codes : other ≡ t.code = cc in
-    let bodies : body ≡ t.code.value = value ∙ ap (λ (c : Rc Code Global). c.value) codes in
-    item_is t.code.value.body.items r.address h.instruction i t.item
-    (subst (λ (c : Code). i ≡ get_or c.body.items r.address i) bodies there)
+-- arithmetic calls no goal
+calls_none : (i : Instruction) → IsArithmetic i → IsNoCall i
+calls_none (Is left steps) is = tt
+calls_none (Compare comparison steps) is = tt
+calls_none i is = absurd is
+
+-- the instruction there is arithmetic
+pub computed_there : (frames : List Frame) (r : Rest) (i : Instruction) → IsInstructionThere frames r i
+    → IsArithmetic i → IsArithmeticThere frames r
+computed_there frames r i there is = record {
+  frame = there.frame;
+  code = there.code;
+  level = there.level;
+  clause = there.clause;
+  arithmetic = (i, there.item, is);
+}
+
+-- where it does arithmetic, or does something else, it calls no goal
+pub arithmetic_other : (frames : List Frame) (r : Rest) → IsArithmeticThere frames r → IsOtherThere frames r
+arithmetic_other frames r h = record {
+  instruction = (h.arithmetic).0;
+  there = record {
+    frame = h.frame;
+    code = h.code;
+    level = h.level;
+    clause = h.clause;
+    item = (h.arithmetic).1;
+  };
+  other = calls_none (h.arithmetic).0 (h.arithmetic).2;
+}
+
+neither_other : (frames : List Frame) (r : Rest) → IsNeitherThere frames r → IsOtherThere frames r
+neither_other frames r h = record { instruction = h.instruction; there = h.there; other = h.other }
+
+pub acts_other : (frames : List Frame) (r : Rest) (a : Act) → ActsThere frames r a → a ≢ act.Calls
+    → ((mark : Mark) → a ≢ act.Cuts mark) → IsOtherThere frames r
+acts_other frames r act.Calls h calls cuts = absurd (calls refl)
+acts_other frames r act.Computes h calls cuts = arithmetic_other frames r h
+acts_other frames r (act.Cuts mark) h calls cuts = absurd (cuts mark refl)
+acts_other frames r act.Other h calls cuts = neither_other frames r h
+
+-- one that calls no goal calls none
+not_called : (i : Instruction) (found : Option Instruction) (x : loaded.Goal) → found ≡ Some i → IsNoCall i
+    → (found ≡ Some (Call x)) ⊎ (found ≡ Some (Execute x)) → ⊥
+not_called i found x is other (inl calls) =
+    let both : Some i ≡ Some (Call x) = sym is ∙ calls in
+    let same : i ≡ Call x = cc in
+    subst IsNoCall same other
+not_called i found x is other (inr executes) =
+    let both : Some i ≡ Some (Execute x) = sym is ∙ executes in
+    let same : i ≡ Execute x = cc in
+    subst IsNoCall same other
+
+not_both : (frames : List Frame) (r : Rest) → IsCallThere frames r → IsOtherThere frames r → ⊥
+not_both frames r call h =
+    let there = call.1 in
+    not_called h.instruction (slice_get (there.code).value.body.items r.address) call.0
+    (instruction_there frames r h.instruction there.frame there.code there.level there.clause h.there) h.other
+    there.called
 
 module _ {S W M : Type 0} (g : Ghosts S W M) (atom_word : ℕ → W) where
   -- where it comes first it is one that does something
@@ -87,6 +137,19 @@ module _ {S W M : Type 0} (g : Ghosts S W M) (atom_word : ℕ → W) where
             (λ l is. on.jump l (t.item ∙ ap Some is));
         there = t;
       }
+
+  -- so where it calls no goal and does no arithmetic, whatever it does
+  pub step_left : (e : Engine S W M) (r : Rest) → e.now ≡ now.Running (next.Code r) → (s : State)
+      → Represents g (framed atom_word) e s → IsOtherThere e.lists.frames.items r → (a : Act)
+      → ActsThere e.lists.frames.items r a → a ≢ act.Computes → IsStepThere e.lists.frames.items r
+  step_left e r doing s is other act.Calls acts none = absurd (not_both e.lists.frames.items r acts other)
+  step_left e r doing s is other act.Computes acts none = absurd (none refl)
+  step_left e r doing s is other (act.Cuts mark) acts none = record {
+    instruction = Cut mark;
+    step = tt;
+    there = acts;
+  }
+  step_left e r doing s is other act.Other acts none = step_there e r doing s is acts
 
 -- what an engine comes to that leaves nothing as it is doesn't depend on what is left to a step
 pub by_any_step : {S L W M K P C N B O : Type 0} (g : Ghosts S W M) (l : lists.Ghosts L S K P C N B O W M)

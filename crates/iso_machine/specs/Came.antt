@@ -1,5 +1,5 @@
 -- What calling the goal that comes first came to.
-use Rattle.std.specs.Prelude.{◌≡◌, ℕ, Bool, true, false, Option, Result, Ok, Err, IfOk, OnErr}
+use Rattle.std.specs.Prelude.{◌≡◌, ◌≤◌, ℕ, Bool, true, false, Option, Result, Ok, Err, IfOk, OnErr}
 use Rattle.iso_model.specs.Search.Walker.{State}
 use Rattle.iso_store_core.specs.declared.shapes.StoreFault.{StoreFault}
 use Rattle.iso_store_core.specs.declared.shapes.StoreFault.TheVariants as fault
@@ -30,6 +30,11 @@ pub record Came {S W M : Type 0} (g : Ghosts S W M) (atom_word : ℕ → W) (old
   pub full : result ≡ Err fault.Full → g.full new.store
   pub stays : Stays g old new
 
+-- what a move that always goes on comes to, as a call does
+abbrev pub went_on : {T : Type 0} → Result T StoreFault → Result Next StoreFault
+went_on (Ok done) = Ok calls.Went
+went_on (Err fault) = Err fault
+
 module _ {S W M : Type 0} (g : Ghosts S W M) (atom_word : ℕ → W) where
   -- it was called, and no goal is left
   abbrev pub CameTo : Engine S W M → Result Next StoreFault → Engine S W M → Type 0
@@ -46,3 +51,11 @@ module _ {S W M : Type 0} (g : Ghosts S W M) (atom_word : ℕ → W) where
   abbrev pub IsBehindCalls : Engine S W M → Engine S W M → Bool → Type 0
   IsBehindCalls old e false = e ≡ old
   IsBehindCalls old e true = CameTo old (Ok calls.Went) e
+
+  -- The engine is the old one, or moves went on to it from there: what went on to the old one, goes on to this one. It
+  -- represents a state, and no more steps are left.
+  pub record IsBehindMoves (old e : Engine S W M) : Type 0 where
+    pub behind : (first : Engine S W M) → CameTo first (Ok calls.Went) old → CameTo first (Ok calls.Went) e
+    pub state : State
+    pub stands : Represents g (framed atom_word) e state
+    pub few : e.steps ≤ old.steps

@@ -1,14 +1,17 @@
 -- What comes first that a step of its own does, since it calls no goal of a procedure.
-use Rattle.std.specs.Prelude.{List, Bool, true, false}
+use Rattle.std.specs.Prelude.{List}
 use Rattle.iso_environments.specs.Answering.{IsArithmetic, IsArithmeticThere}
+use Rattle.iso_environments.specs.Putting.{IsCallThere}
 use Rattle.iso_control.specs.Members.{IsNoGoal}
 use Rattle.iso_instructions.specs.declared.instructions.Instruction.{Instruction}
-use Rattle.iso_instructions.specs.declared.instructions.Instruction.TheVariants.{Call, Execute}
+use Rattle.iso_instructions.specs.declared.instructions.Instruction.TheVariants.{Call, Cut, Execute}
 use Rattle.iso_frames.specs.declared.frames.Rest.{Rest}
 use Rattle.iso_frames.specs.declared.frames.Frame.{Frame}
 use Rattle.iso_frames.specs.declared.frames.Next.{Next}
 use Rattle.iso_frames.specs.declared.frames.Next.TheVariants as next
 use Rattle.iso_machine.specs.declared.framed.Framed.{Framed}
+use Rattle.iso_machine.specs.declared.goal_places.Act.{Act}
+use Rattle.iso_machine.specs.declared.goal_places.Act.TheVariants as act
 use Rattle.iso_machine.specs.Instructions.{IsInstructionThere}
 
 -- the instruction calls no goal
@@ -36,7 +39,9 @@ pub record IsNeitherThere (frames : List Frame) (r : Rest) : Type 0 where
   pub other : IsNoCall instruction
   pub none : IsArithmetic instruction → ⊥
 
--- The instruction there does arithmetic, or it doesn't, and calls no goal.
-abbrev pub ComputesThere : List Frame → Rest → Bool → Type 0
-ComputesThere frames r true = IsArithmeticThere frames r
-ComputesThere frames r false = IsNeitherThere frames r
+-- This is what the instruction there does.
+abbrev pub ActsThere : List Frame → Rest → Act → Type 0
+ActsThere frames r act.Calls = IsCallThere frames r
+ActsThere frames r act.Computes = IsArithmeticThere frames r
+ActsThere frames r (act.Cuts mark) = IsInstructionThere frames r (Cut mark)
+ActsThere frames r act.Other = IsNeitherThere frames r

@@ -1,13 +1,14 @@
 //! Arithmetic in line: evaluation and comparisons, in the code of a clause (8.6, 8.7).
-ghost use Rattle.std.specs.Prelude.{◌≡◌};
+ghost use Rattle.std.specs.Prelude.{◌≡◌, ◌≢◌, ◌<◌, IfOk};
 ghost use Rattle.iso_model.specs.Search.Walker.{State};
 ghost use Rattle.iso_search_core.specs.declared.nows.Now.TheVariants as now;
 ghost use Rattle.iso_frames.specs.declared.frames.Next.TheVariants as next;
 ghost use Rattle.iso_environments.specs.Answering.{IsArithmeticThere};
 ghost use Rattle.iso_search.specs.EngineStates.{Represents};
 ghost use Rattle.iso_search.specs.Moved.{Moved};
-ghost use Rattle.iso_machine.specs.Engines.{framed};
 ghost use Rattle.iso_machine.specs.Arithmetic.{HasComputed};
+ghost use Rattle.iso_machine.specs.Came.{CameTo, went_on};
+ghost use Rattle.iso_machine.specs.Engines.{framed};
 
 use super::framed::Framed;
 use iso_cells::Cells;
@@ -34,6 +35,23 @@ pub(crate) fn run_arithmetic<S: Cells + Drop>(
         search.clear();
         return Ok(Move::Pauses(Pause::Budget));
     }
+    compute(search, rest)?;
+    Ok(Move::Goes)
+}
+
+/// Does the arithmetic of the instruction there, where a step is left: its goal takes it, and succeeds, fails, or throws
+/// a ball (8.6.1, 8.7.1). The errors: the store is full, or memory was refused.
+pub(crate) fn compute<S: Cells + Drop>(
+    search: &mut Search<S, Framed<S>>,
+    rest: Rest,
+) -> Result<(), StoreFault>
+    requires now { search.old.now ≡ now.Running (next.Code rest) }
+    requires there { IsArithmeticThere search.old.lists.frames.items rest }
+    requires more { search.old.steps ≢ 0 }
+    requires stands { (s : State) × Represents S.Store (framed S.atom_word) search.old s }
+    ensures came { CameTo S.Store S.atom_word search.old (went_on result) search.new }
+    ensures steps { IfOk result (λ done. search.new.steps < search.old.steps) }
+{
     let answered = answer(
         search.alloc,
         &mut search.store,
@@ -53,12 +71,13 @@ fn go_on_from<S: Cells + Drop>(
     search: &mut Search<S, Framed<S>>,
     answered: Result<Reply, Fault>,
     rest: Rest,
-) -> Result<Move, StoreFault>
+) -> Result<(), StoreFault>
     requires { (e : _) × HasComputed S.Store S.atom_word e search.old rest answered
         × ((s : State) × Represents S.Store (framed S.atom_word) e s) }
-    ensures { (e : _) (s : State) → HasComputed S.Store S.atom_word e search.old rest answered
+    ensures came { (e : _) (s : State) → HasComputed S.Store S.atom_word e search.old rest answered
         → Represents S.Store (framed S.atom_word) e s
-        → Moved S.Store (framed S.atom_word) (λ t. Unit {0}) e result search.new }
+        → CameTo S.Store S.atom_word e (went_on result) search.new }
+    ensures steps { IfOk result (λ done. search.new.steps ≡ search.old.steps) }
 {
     let behind = Some(Rest {
         frame: rest.frame,
@@ -67,12 +86,15 @@ fn go_on_from<S: Cells + Drop>(
     match answered {
         Ok(Reply::Done) => {
             search.now = search.coming(behind);
-            Ok(Move::Goes)
+            Ok(())
         }
         Ok(Reply::Fail) => {
             search.now = Now::Failing;
-            Ok(Move::Goes)
+            Ok(())
         }
-        Err(fault) => search.behind_fault(fault, behind),
+        Err(fault) => {
+            search.behind_fault(fault, behind)?;
+            Ok(())
+        }
     }
 }

@@ -14,9 +14,11 @@ ghost use Rattle.iso_machine.specs.Came.{Came};
 ghost use Rattle.iso_machine.specs.Engines.{HasNoRoom, framed};
 ghost use Rattle.iso_machine.specs.Steps.{IsOtherThere};
 
+use super::arithmetic::compute;
 use super::calling::{Gone, enter_clause};
+use super::control::cut_back;
 use super::framed::{Framed, KeptCall};
-use super::goal_places::calls_there;
+use super::goal_places::{Act, act_there};
 use super::goals::{call_goal, call_word};
 use iso_cells::Cells;
 use iso_frames::{Frame, Link, Next as First, Rest, Work};
@@ -30,8 +32,8 @@ use iso_search::search::Search;
 use iso_search_core::nows::Now;
 use iso_store_core::{Store, StoreFault};
 
-/// Calls the goal of the instruction there; one that calls none is left as it is. The errors: the store is full, or
-/// memory was refused.
+/// Calls the goal of the instruction there; or does its cut, or its arithmetic where a step is left. Any other is left
+/// as it is. The errors: the store is full, or memory was refused.
 fn call_code<S: Cells + Drop>(
     search: &mut Search<S, Framed<S>>,
     rest: Rest,
@@ -41,11 +43,21 @@ fn call_code<S: Cells + Drop>(
     requires stands { (s : State) × Represents S.Store (framed S.atom_word) search.old s }
     ensures { Came S.Store S.atom_word search.old result asked.new search.new }
 {
-    if !calls_there(search.lists.frames.as_slice(), rest) {
-        *asked = None;
-        return Ok(Next::Other);
+    match act_there(search.lists.frames.as_slice(), rest) {
+        Act::Calls => call_goal(search, rest, asked),
+        Act::Computes if search.steps != 0 => {
+            compute(search, rest)?;
+            Ok(Next::Went)
+        }
+        Act::Cuts(mark) => {
+            cut_back(search, rest, mark);
+            Ok(Next::Went)
+        }
+        _ => {
+            *asked = None;
+            Ok(Next::Other)
+        }
     }
-    call_goal(search, rest, asked)
 }
 
 /// Calls the goal that the member is; one that is none is left as it is. The errors: the store is full, or memory was

@@ -86,7 +86,10 @@ pub(crate) fn run_instruction<S: Cells + Drop>(
         unreachable!();
     };
     match code.body[rest.address] {
-        Instruction::Cut(mark) => Ok(cut_back(search, rest, mark)),
+        Instruction::Cut(mark) => {
+            cut_back(search, rest, mark);
+            Ok(Move::Goes)
+        }
         Instruction::TryElse(other) => try_else(search, rest, other),
         Instruction::GetLevel(slot) => get_level(search, rest, slot),
         _ => unreachable!(),
@@ -94,16 +97,16 @@ pub(crate) fn run_instruction<S: Cells + Drop>(
 }
 
 /// Cuts back to the mark, and goes on at the address below (7.8.4, 7.8.7).
-fn cut_back<S: Cells + Drop>(search: &mut Search<S, Framed<S>>, rest: Rest, mark: Mark) -> Move
+pub(crate) fn cut_back<S: Cells + Drop>(search: &mut Search<S, Framed<S>>, rest: Rest, mark: Mark)
     requires now { search.old.now ≡ now.Running (next.Code rest) }
     requires there { IsInstructionThere search.old.lists.frames.items rest (instruction.Cut mark) }
     requires stands { (s : State) × Represents S.Store (framed S.atom_word) search.old s }
-    ensures { Moved S.Store (framed S.atom_word) (λ s. Unit {0}) search.old (Ok result) search.new }
+    ensures moved { Moved S.Store (framed S.atom_word) (λ s. Unit {0}) search.old (Ok Move.Goes) search.new }
+    ensures steps { search.new.steps ≡ search.old.steps }
 {
     let height = height_at(search.lists.frames.as_slice(), rest, mark);
     search.cut_to(height);
     search.now = search.coming(at(rest, rest.address - 1));
-    Move::Goes
 }
 
 /// Keeps the alternative at another address of the clause as a choice, and goes on at the address below (7.8.6). The

@@ -1,35 +1,33 @@
 //! Where the goal stands that is called next: at an instruction of a frame, or in a clause that has no frame.
-ghost use Rattle.std.specs.Prelude.{◌≡◌, ◌<◌, ℕ, Err, IfOk, IfSome, MatchBool, OnErr, Option, Some, Vec, length};
+ghost use Rattle.std.specs.Prelude.{◌≡◌, ◌<◌, ℕ, Err, IfOk, OnErr, Option, Some, Vec, length};
 ghost use Rattle.std.specs.Global.{Global};
 ghost use Rattle.std.specs.List.{slice_get};
 ghost use Rattle.iso_model.specs.Search.Walker.{State};
 ghost use Rattle.iso_instructions.specs.declared.instructions.Goal as instruction;
 ghost use Rattle.iso_instructions.specs.declared.instructions.Instruction.TheVariants as instructions;
 ghost use Rattle.iso_environments.specs.Leveled.{IsAtClause};
-ghost use Rattle.iso_environments.specs.Putting.{GoesBehind, IsCallThere, IsCalledAt};
+ghost use Rattle.iso_environments.specs.Putting.{GoesBehind, IsCalledAt};
 ghost use Rattle.iso_frames.specs.Costs.{compound_cells};
 ghost use Rattle.iso_frames.specs.declared.frames.Rest as frame;
 ghost use Rattle.iso_frames.specs.declared.frames.Frame as frames;
-ghost use Rattle.iso_frames.specs.declared.frames.Next.TheVariants as next;
-ghost use Rattle.iso_search_core.specs.declared.nows.Now.TheVariants as now;
 ghost use Rattle.iso_search.specs.EngineStates.{Represents, Refused};
 ghost use Rattle.iso_search.specs.Stays.{Stays};
 ghost use Rattle.iso_machine.specs.Engines.{framed};
 ghost use Rattle.iso_machine.specs.GoalCalls.{IsCallPut};
 ghost use Rattle.iso_machine.specs.GoalPlaces.{IsCodeAt, IsGoalAt, IsReadable};
 ghost use Rattle.iso_machine.specs.LastCalls.{with_frame};
-ghost use Rattle.iso_machine.specs.Steps.{IsOtherThere};
+ghost use Rattle.iso_machine.specs.Steps.{ActsThere};
 
 use super::framed::Framed;
 use iso_cells::Cells;
+use iso_compile::Mark;
 use iso_db::{ClauseId, Db};
 use iso_environments::Put;
-use iso_frames::{Frame, Next as First, Rest, Work};
+use iso_frames::{Frame, Rest, Work};
 use iso_instructions::{Code, Goal, Instruction};
 use iso_machine_core::put_arguments;
 use iso_program::clauses::Clause;
 use iso_search::search::Search;
-use iso_search_core::nows::Now;
 use iso_search_core::own::OwnOf;
 use iso_store_core::{Store, StoreFault};
 
@@ -43,39 +41,37 @@ pub(crate) enum GoalPlace {
     Last(ClauseId, Option<Rest>),
 }
 
-/// Whether the instruction there calls a goal.
-pub(crate) fn calls_there(frames: &[Frame], rest: Rest) -> bool
+/// What the instruction does that comes first.
+#[derive(Clone, Copy)]
+pub(crate) enum Act {
+    /// It calls a goal.
+    Calls,
+    /// It does arithmetic.
+    Computes,
+    /// It cuts back to this mark.
+    Cuts(Mark),
+    /// It does something else: it keeps a level, or an alternative.
+    Other,
+}
+
+/// What the instruction there does.
+#[inline(always)]
+pub(crate) fn act_there(frames: &[Frame], rest: Rest) -> Act
     requires { (f : _) × (code : _) × (level : Option _) × IsAtClause frames.now rest f code level
         × (rest.address < length code.value.body.items) }
-    ensures { MatchBool result (IsCallThere frames.now rest) (IsOtherThere frames.now rest) }
+    ensures { ActsThere frames.now rest result }
 {
     let frame = &frames[rest.frame];
     let Work::Clause(code, _) = &frame.work else {
         unreachable!();
     };
     match &code.body[rest.address] {
-        Instruction::Call(_) => true,
-        Instruction::Execute(_) => true,
-        _ => false,
-    }
-}
-
-/// Where the instruction stands that comes first, where it calls a goal.
-pub(crate) fn next_call<S: Cells + Drop>(search: &Search<S, Framed<S>>) -> Option<Rest>
-    requires { (s : State) × Represents S.Store (framed S.atom_word) search.now s }
-    ensures { IfSome result (λ rest. (search.entry.now.now ≡ now.Running (next.Code rest))
-        × IsCallThere search.entry.now.lists.frames.items rest) }
-{
-    let Now::Running(first) = search.now else {
-        return None;
-    };
-    let First::Code(rest) = first else {
-        return None;
-    };
-    if calls_there(search.lists.frames.as_slice(), rest) {
-        Some(rest)
-    } else {
-        None
+        Instruction::Call(_) => Act::Calls,
+        Instruction::Execute(_) => Act::Calls,
+        Instruction::Is(_, _) => Act::Computes,
+        Instruction::Compare(_, _) => Act::Computes,
+        Instruction::Cut(mark) => Act::Cuts(*mark),
+        _ => Act::Other,
     }
 }
 

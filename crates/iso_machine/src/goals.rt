@@ -1,5 +1,5 @@
 //! Goals are called, by the words that they are or by the arguments that were put (7.7.7).
-ghost use Rattle.std.specs.Prelude.{◌≡◌, ◌≢◌, ◌<◌, ℕ, MatchOption, length};
+ghost use Rattle.std.specs.Prelude.{◌≡◌, ◌≢◌, ◌<◌, ◌≤◌, ℕ, IfOk, IfSome, MatchOption, Ok, length};
 ghost use Rattle.iso_atoms.specs.Texts.{text_at};
 ghost use Rattle.iso_model.specs.Search.Keys.{Key, key_of};
 ghost use Rattle.iso_model.specs.Search.Walker.{State, World};
@@ -12,26 +12,29 @@ ghost use Rattle.iso_environments.specs.Putting.{IsCallThere};
 ghost use Rattle.iso_db.specs.declared.keyed.KeyedView.{KeyedView};
 ghost use Rattle.iso_search.specs.declared.calls.Called.TheVariants as call;
 ghost use Rattle.iso_search.specs.Called.{CallsAt, IsCalled};
+ghost use Rattle.iso_search.specs.declared.calls.Next.TheVariants as calls;
 ghost use Rattle.iso_search.specs.EngineStates.{Represents, leaves_of};
 ghost use Rattle.iso_search.specs.Nexts.{IsGoalFirst};
 ghost use Rattle.iso_search.specs.Worlds.{IsWorld};
-ghost use Rattle.iso_machine.specs.Came.{Came, CameTo};
+ghost use Rattle.iso_machine.specs.Came.{Came, CameTo, IsBehindCalls, went_on};
 ghost use Rattle.iso_machine.specs.Engines.{Engine, framed};
 ghost use Rattle.iso_machine.specs.GoalCalls.{IsCallPut, goal_put};
-ghost use Rattle.iso_machine.specs.Came.{IsBehindCalls};
 
+use super::arithmetic::compute;
 use super::calling::Gone;
+use super::control::cut_back;
 use super::framed::Framed;
-use super::goal_places::{GoalPlace, next_call, put_next};
+use super::goal_places::{Act, GoalPlace, act_there, put_next};
 use super::putting::{called_put, go, show_goal, show_next};
 use iso_atoms::Atom;
 use iso_cells::Cells;
 use iso_db::{ClauseId, KeyedView};
 use iso_environments::Put;
-use iso_frames::Rest;
+use iso_frames::{Next as First, Rest};
 use iso_search::calls::{Called, Next, NextGoal};
 use iso_search::search::Search;
 use iso_search_core::goals::read_arguments;
+use iso_search_core::nows::Now;
 use iso_store_core::{Shape, Store, StoreFault};
 
 /// The name of the goal that the word stands for.
@@ -157,10 +160,38 @@ fn leave_goal<S: Cells + Drop>(
     show_next(search, put.name, put.behind, called, asked)
 }
 
+/// Does arithmetic and cuts, as long as they come first; arithmetic only where a step is left. Gives the place of the
+/// instruction that comes first then, where it calls a goal. The errors: the store is full, or memory was refused.
+fn go_to_call<S: Cells + Drop>(
+    search: &mut Search<S, Framed<S>>,
+) -> Result<Option<Rest>, StoreFault>
+    requires { (s : State) × Represents S.Store (framed S.atom_word) search.old s }
+    ensures came { (old : Engine S S.Word S.Mark) → CameTo S.Store S.atom_word old (Ok calls.Went) search.old
+        → CameTo S.Store S.atom_word old (went_on result) search.new }
+    ensures there { IfOk result (λ found. IfSome found (λ rest. (search.new.now ≡ now.Running (next.Code rest))
+        × IsCallThere search.new.lists.frames.items rest)) }
+    ensures steps { IfOk result (λ found. search.new.steps ≤ search.old.steps) }
+{
+    loop {
+        let Now::Running(first) = search.now else {
+            return Ok(None);
+        };
+        let First::Code(rest) = first else {
+            return Ok(None);
+        };
+        match act_there(search.lists.frames.as_slice(), rest) {
+            Act::Calls => return Ok(Some(rest)),
+            Act::Computes if search.steps != 0 => compute(search, rest)?,
+            Act::Cuts(mark) => cut_back(search, rest, mark),
+            _ => return Ok(None),
+        }
+    }
+}
+
 /// Calls the procedure of the goal that the instruction there calls, where it is one with clauses and a step is left;
 /// anything else comes first as a word, and is left. The goal that comes first then is called so, too, as long as an
-/// instruction calls it, or it is the one goal of a clause without a frame. One that can't be called comes first as a
-/// word. The errors: the store is full, or memory was refused.
+/// instruction calls it, behind arithmetic and cuts or not, or it is the one goal of a clause without a frame. One that
+/// can't be called comes first as a word. The errors: the store is full, or memory was refused.
 pub(crate) fn call_goal<S: Cells + Drop>(
     search: &mut Search<S, Framed<S>>,
     rest: Rest,
@@ -185,7 +216,7 @@ pub(crate) fn call_goal<S: Cells + Drop>(
             _ => return leave_goal(search, put, called, went, asked),
         };
         match go(search, clause, &mut later, put.name, put.behind, true)? {
-            Gone::Went => match next_call(search) {
+            Gone::Went => match go_to_call(search)? {
                 Some(rest) => place = GoalPlace::There(rest),
                 None => return Ok(Next::Went),
             },

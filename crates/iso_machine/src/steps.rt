@@ -9,37 +9,21 @@ ghost use Rattle.iso_search.specs.Nexts.{ComesNext, FallsNext, WentOrFull};
 ghost use Rattle.iso_search.specs.Retrying.{TriesNext};
 ghost use Rattle.iso_search.specs.Stays.{Stays};
 ghost use Rattle.iso_machine.specs.Engines.{framed};
-ghost use Rattle.iso_machine.specs.Steps.{IsByStep, IsOtherThere, ComputesThere};
+ghost use Rattle.iso_machine.specs.Steps.{IsByStep, IsOtherThere};
 
 use super::arithmetic::run_arithmetic;
 use super::callers;
 use super::control::run_instruction;
 use super::framed::{Framed, KeptCall};
+use super::goal_places::{Act, act_there};
 use iso_cells::Cells;
 use iso_control::control::{First, run_member};
-use iso_frames::{Frame, Next as Coming, Rest, Work};
-use iso_instructions::Instruction;
+use iso_frames::{Next as Coming, Rest};
 use iso_search::callers::Calls;
 use iso_search::calls::{Next, NextGoal};
 use iso_search::retries::Retry;
 use iso_search::search::{Move, Search};
 use iso_store_core::{Store, StoreFault};
-
-/// Whether the instruction there, which calls no goal, does arithmetic.
-fn computes_there(frames: &[Frame], rest: Rest) -> bool
-    requires { IsOtherThere frames.now rest }
-    ensures { ComputesThere frames.now rest result }
-{
-    let frame = &frames[rest.frame];
-    let Work::Clause(code, _) = &frame.work else {
-        unreachable!();
-    };
-    match &code.body[rest.address] {
-        Instruction::Is(_, _) => true,
-        Instruction::Compare(_, _) => true,
-        _ => false,
-    }
-}
 
 /// Does the instruction there, which calls no goal. The errors: the store is full, or memory was refused.
 fn run_code<S: Cells + Drop>(
@@ -51,10 +35,9 @@ fn run_code<S: Cells + Drop>(
     requires stands { (s : State) × Represents S.Store (framed S.atom_word) search.old s }
     ensures { Moved S.Store (framed S.atom_word) (λ s. Unit {0}) search.old result search.new }
 {
-    if computes_there(search.lists.frames.as_slice(), rest) {
-        run_arithmetic(search, rest)
-    } else {
-        run_instruction(search, rest)
+    match act_there(search.lists.frames.as_slice(), rest) {
+        Act::Computes => run_arithmetic(search, rest),
+        _ => run_instruction(search, rest),
     }
 }
 

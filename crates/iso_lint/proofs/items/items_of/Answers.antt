@@ -18,7 +18,7 @@ loop-items-preserved c =
     let old = map item_of c.loop-items.items.items in
     let made = ap (map item_of) c.in_ok-push.ensures.items ∙ map-append item_of c.loop-items.items.items (c.in_ok-item.item ∷ []) ∙ ap (λ x. old ++ x ∷ []) h in
     let set = c.in_ok-set_by.ensures ∙ ap (λ x. behind_read x.term s) h in
-    later size (map (item size) (parts (tokens c.args.text.now))) _ _ _ _ s c.set_by.new.self part cut shorter made set c.loop-items.invariant
+    later size (map (item size) (parts (tokens c.args.text.now))) _ _ _ _ s c.set_by.new.settings part cut shorter made set c.loop-items.invariant
 
 pub returns : goal.returns
 returns c =

@@ -1,7 +1,7 @@
 -- The procedures so far are noted.
 use Rattle.std.proofs.Common.{List, ◌++◌, take}
 use Rattle.iso_model.specs.Search.Keys.{Key}
-use Rattle.iso_lint.specs.KeyViews.{keys_view}
+use Rattle.iso_lint_core.specs.KeyViews.{keys_view}
 use Rattle.iso_lint.specs.Tables.{Knows}
 use Rattle.iso_lint.proofs.texts.note_all.Given as goal
 

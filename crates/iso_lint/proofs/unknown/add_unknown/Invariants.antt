@@ -2,7 +2,7 @@
 use Rattle.std.proofs.Common.{◌≡◌, ◌++◌, map, take}
 use Rattle.iso_lint.specs.Findings as spec
 use Rattle.iso_lint.specs.FindingViews.{finding_of}
-use Rattle.iso_lint.specs.KeyViews.{keys_view}
+use Rattle.iso_lint_core.specs.KeyViews.{keys_view}
 use Rattle.iso_lint.proofs.unknown.add_unknown.Given as goal
 
 abbrev pub invariant-loop-key : goal.invariant-loop-key

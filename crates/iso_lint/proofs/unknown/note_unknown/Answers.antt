@@ -1,6 +1,6 @@
 use Rattle.std.proofs.Common.{◌≡◌, false, ap, sym, ◌∙◌}
 use Rattle.iso_lint.specs.Findings as spec
-use Rattle.iso_lint.specs.KeyViews.{key_view, keys_view}
+use Rattle.iso_lint_core.specs.KeyViews.{key_view, keys_view}
 use Rattle.iso_lint.proofs.KeyLemmas.{noted_more}
 use Rattle.iso_lint.proofs.unknown.note_unknown.Goals as goal
 

@@ -2,7 +2,7 @@
 use Rattle.std.proofs.Common.{◌≡◌, List, take}
 use Rattle.iso_model.specs.Search.Keys.{Key}
 use Rattle.iso_lint.specs.Findings as spec
-use Rattle.iso_lint.specs.KeyViews.{keys_view}
+use Rattle.iso_lint_core.specs.KeyViews.{keys_view}
 use Rattle.iso_lint.specs.Tables.{Knows}
 use Rattle.iso_lint.proofs.unknown.unknown_of.Given as goal
 

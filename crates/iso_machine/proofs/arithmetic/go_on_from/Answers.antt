@@ -1,6 +1,7 @@
 use Rattle.std.proofs.Common.{rules, ◌≡◌, ap, ◌∙◌, Ok, Err}
 use Rattle.iso_lib_core.specs.declared.outcomes.Reply.TheVariants as outcome
-use Rattle.iso_machine.proofs.ArithmeticMoves.{ball_fits, chain, done_list, done_moved, fail_moved, fault_moved, goes_below, has_answered, some_above}
+use Rattle.iso_machine.proofs.ArithmeticMoves.{ball_fits, chain, done_list, done_moved, fail_moved, fault_came, fault_steps, goes_below, has_answered, some_above, thrown_came}
+use Rattle.iso_machine.proofs.WentMoves.{came_moved, went_not}
 use Rattle.iso_machine.proofs.arithmetic.go_on_from.Goals as goal
 
 pub overflow_sub-behind : goal.overflow_sub-behind
@@ -22,18 +23,20 @@ coming-search-requires g c =
       done_list g.S.Store g.S.Cells.atom_word has s.0 s.1 is,
     )
 
-pub returns-in-Ok-Done : goal.returns-in-Ok-Done
-returns-in-Ok-Done g c = λ e s has stands.
+pub returns-in-Ok-Done-clause-came : goal.returns-in-Ok-Done-clause-came
+returns-in-Ok-Done-clause-came g c = λ e s has stands.
     (let is : c.args.answered ≡ Ok outcome.Done = search rules in
-    done_moved g.S.Store g.S.Cells.atom_word has s stands is c.coming-search.result c.coming-search.ensures.behind
-    c.coming-search.ensures.cost c.coming-search.ensures.awake (search rules))
+    came_moved g.S.Store g.S.Cells.atom_word (done_moved g.S.Store g.S.Cells.atom_word has s stands is
+    c.coming-search.result c.coming-search.ensures.behind c.coming-search.ensures.cost c.coming-search.ensures.awake
+    (search rules)))
 
 -- ---- it failed
 
-pub returns-in-Ok-Fail : goal.returns-in-Ok-Fail
-returns-in-Ok-Fail g c = λ e s has stands.
+pub returns-in-Ok-Fail-clause-came : goal.returns-in-Ok-Fail-clause-came
+returns-in-Ok-Fail-clause-came g c = λ e s has stands.
     (let is : c.args.answered ≡ Ok outcome.Fail = search rules in
-    fail_moved g.S.Store g.S.Cells.atom_word has s stands is (search rules))
+    came_moved g.S.Store g.S.Cells.atom_word
+    (fail_moved g.S.Store g.S.Cells.atom_word has s stands is (search rules)))
 
 -- ---- a ball is thrown, or it was refused
 
@@ -41,7 +44,18 @@ pub behind_fault-requires : goal.behind_fault-requires
 behind_fault-requires g c = λ ball is.
     ball_fits g.S.Store g.S.Cells.atom_word c.requires.1 c.requires.2.0 c.requires.2.1 ball (c.in-Err.is ∙ ap Err is)
 
-pub returns-in-Err : goal.returns-in-Err
-returns-in-Err g c = λ e s has stands.
-    fault_moved g.S.Store g.S.Cells.atom_word has s stands c.in-Err.fault c.in-Err.is c.behind_fault.result
-    c.behind_fault.new.self c.behind_fault.ensures.throws c.behind_fault.ensures.stays
+pub returns-in_err-behind_fault-in-Err-clause-came : goal.returns-in_err-behind_fault-in-Err-clause-came
+returns-in_err-behind_fault-in-Err-clause-came g c = λ e s has stands.
+    went_not g.S.Store g.S.Cells.atom_word c.from_residual.result _ c.from_residual.ensures.0 c.from_residual.ensures.1
+    (fault_came g.S.Store g.S.Cells.atom_word has s stands c.in-Err.fault c.in-Err.is _ c.behind_fault.new.self
+    c.in_err-behind_fault-in-Err.ensures.throws c.in_err-behind_fault-in-Err.ensures.stays)
+
+pub returns-in_ok-behind_fault-in-Err-clause-came : goal.returns-in_ok-behind_fault-in-Err-clause-came
+returns-in_ok-behind_fault-in-Err-clause-came g c = λ e s has stands.
+    thrown_came g.S.Store g.S.Cells.atom_word has s stands c.in-Err.fault c.in-Err.is _ c.behind_fault.new.self
+    c.in_ok-behind_fault-in-Err.ensures.throws c.in_ok-behind_fault-in-Err.ensures.stays
+
+pub returns-in_ok-behind_fault-in-Err-clause-steps : goal.returns-in_ok-behind_fault-in-Err-clause-steps
+returns-in_ok-behind_fault-in-Err-clause-steps g c =
+    fault_steps g.S.Store g.S.Cells.atom_word _ c.behind_fault.new.self c.in-Err.fault _ _
+    c.in_ok-behind_fault-in-Err.ensures.throws

@@ -1,6 +1,6 @@
-use Rattle.std.proofs.Common.{rules}
+use Rattle.std.proofs.Common.{ap, rules}
 use Rattle.iso_search.proofs.AheadLemmas.{keeps_ahead}
-use Rattle.iso_machine.specs.Engines.{framed}
+use Rattle.iso_machine.specs.Engines.{Engine, framed}
 use Rattle.iso_machine.proofs.CutMoves.{below, cut_at, cut_ahead, cut_moved}
 use Rattle.iso_machine.proofs.control.cut_back.Goals as goal
 
@@ -41,8 +41,8 @@ coming-search-requires g c =
     c.requires.stands.1 in
     rw c.at.ensures (cut.behind, ahead.chain)
 
-pub returns : goal.returns
-returns g c =
+pub returns-clause-moved : goal.returns-clause-moved
+returns-clause-moved g c =
     let there = c.requires.there in
     let heights = rw c.as_slice.ensures.value at c.height_at-height.ensures in
     let comes = rw c.at.ensures at c.coming-search.ensures.behind in
@@ -52,3 +52,6 @@ returns g c =
     (λ kept levels. heights there.frame there.code there.level kept there.clause levels) c.cut_to.ensures.same
     c.cut_to.ensures.costs c.coming-search.result comes less c.coming-search.ensures.awake (search rules)
     c.requires.stands.0 c.requires.stands.1
+
+pub returns-clause-steps : goal.returns-clause-steps
+returns-clause-steps g c = ap (λ (e : Engine _ _ _). e.steps) c.cut_to.ensures.same

@@ -114,28 +114,42 @@ returns-in_err-go g c =
     (put_called g.S.Store g.S.Cells.atom_word c.in-User.clause c.called_put-called.new.later put more
     (rw c.in-User.is at c.called_put-called.ensures)))
 
-pub next_call-requires : goal.next_call-requires
-next_call-requires g c =
+pub go_to_call-requires : goal.go_to_call-requires
+go_to_call-requires g c =
     let h = c.loop-put.invariant in
-    let on = (went g (goal.at.next_call-requires g c).In-Went None).next h.state h.stands in
+    let on = (went g (goal.at.go_to_call-requires g c).In-Went None).next h.state h.stands in
     (on.0, on.2)
+
+pub returns-in_err-rest-in-Went : goal.returns-in_err-rest-in-Went
+returns-in_err-rest-in-Went g c =
+    let h = c.loop-put.invariant in
+    next_error g.S.Store g.S.Cells.atom_word h c.from_residual-in_err-rest-in-Went.result _
+    c.from_residual-in_err-rest-in-Went.ensures.0 c.from_residual-in_err-rest-in-Went.ensures.1
+    (c.in_err-rest-in-Went.ensures.came (whole g.S.Store g.S.Cells.atom_word h)
+    (went g (goal.at.returns-in_err-rest-in-Went g c).In-Went))
 
 pub returns-in-None : goal.returns-in-None
 returns-in-None g c =
-    next_went g.S.Store g.S.Cells.atom_word c.loop-put.invariant (went g (goal.at.returns-in-None g c).In-Went) _
+    let h = c.loop-put.invariant in
+    next_went g.S.Store g.S.Cells.atom_word h
+    (c.in_ok-rest-in-Went.ensures.came (whole g.S.Store g.S.Cells.atom_word h)
+    (went g (goal.at.returns-in-None g c).In-Went)) _
 
 pub loop-put-smaller-in-Some : goal.loop-put-smaller-in-Some
 loop-put-smaller-in-Some g c =
     let h = c.loop-put.invariant in
     let steps = (c.in_ok-put.ensures.put h.frames h.rest h.state h.at h.stands).steps in
     let fewer = c.in_ok-go.ensures.steps in
-    omega (arith, steps, fewer)
+    let few = c.in_ok-rest-in-Went.ensures.steps in
+    omega (arith, steps, fewer, few)
 
 pub loop-put-preserved-in-Some : goal.loop-put-preserved-in-Some
 loop-put-preserved-in-Some g c =
-    let next = rw c.in-Some.is at c.next_call.ensures in
-    next_there g.S.Store g.S.Cells.atom_word c.loop-put.invariant c.in-Some.rest next.0 next.1
-    (went g (goal.at.loop-put-preserved-in-Some g c).In-Went)
+    let h = c.loop-put.invariant in
+    let next = rw c.in-Some.is at c.in_ok-rest-in-Went.ensures.there in
+    next_there g.S.Store g.S.Cells.atom_word h c.in-Some.rest next.0 next.1
+    (c.in_ok-rest-in-Went.ensures.came (whole g.S.Store g.S.Cells.atom_word h)
+    (went g (goal.at.loop-put-preserved-in-Some g c).In-Went))
 
 pub returns-in-Full : goal.returns-in-Full
 returns-in-Full g c =

@@ -1,7 +1,7 @@
 use Rattle.std.proofs.Common.{◌∙◌, ◌||◌, ap, sym}
 use Rattle.std.specs.List.{list_any}
 use Rattle.iso_model.specs.Search.Keys as model
-use Rattle.iso_lint.specs.KeyViews.{key_view}
+use Rattle.iso_lint_core.specs.KeyViews.{key_view}
 use Rattle.iso_lint.proofs.tables.Table.knows.Goals as goal
 
 pub returns-else-is_built_in : goal.returns-else-is_built_in

@@ -1,5 +1,0 @@
-use Rattle.iso_lint.proofs.OtherLemmas.{other_head}
-use Rattle.iso_lint.proofs.calls.head_of.Goals as goal
-
-pub returns-in-Other : goal.returns-in-Other
-returns-in-Other c = other_head _ _ _ c.in-Other.ensures

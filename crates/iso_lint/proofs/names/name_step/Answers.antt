@@ -1,5 +1,0 @@
-use Rattle.iso_lint.proofs.NameLemmas.{no_names}
-use Rattle.iso_lint.proofs.names.name_step.Goals as goal
-
-pub returns-in-Other : goal.returns-in-Other
-returns-in-Other c = no_names _ _ _ c.in-Other.ensures
