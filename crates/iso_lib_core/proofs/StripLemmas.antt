@@ -3,7 +3,7 @@ use Rattle.std.proofs.Common.{◌≡◌, ℕ, ◌+◌, List, [], ◌∷◌, ◌+
 use Rattle.std.specs.List.{filter, list_any, position_from}
 use Rattle.std.proofs.lemmas.Iterator.Adapters.{position_from-zero}
 use Rattle.std.specs.Cmp.{both_ways}
-use Rattle.std.proofs.lemmas.Bool.{or_cases, or_left, or_right}
+use Rattle.std.proofs.lemmas.Bool.{cases_Bool, or_cases, or_left, or_right, false≢true}
 use Rattle.std.proofs.lemmas.List.{append_assoc}
 use Rattle.iso_model.specs.Terms.Trees.{Tree, Variable, Integer, Name, Apply, End, More}
 use Rattle.iso_model.specs.Terms.Variables.{occurs, is_in, distinct_from, variables}
@@ -11,7 +11,7 @@ use Rattle.iso_model.specs.Terms.Unification.Listed.{distinct_covers, distinct_k
 use Rattle.iso_model.proofs.OnTerms.VariableLemmas.{listed_from}
 use Rattle.iso_model.specs.Search.Groups.{stripped, bound_terms, is_bound, free_variables}
 use Rattle.iso_lib_core.specs.Lists.{is_pair_named}
-use Rattle.iso_lib_core.specs.Stripping.{is_free}
+use Rattle.iso_lib_core.specs.Stripping.{is_free, with_variable}
 
 -- a goal that is no `V^G` has no such left side
 pub none_bound : (t : Tree) → is_pair_named (codes "^") t ≡ false → bound_terms t ≡ End
@@ -87,3 +87,53 @@ free_variables_of bound (v ∷ vs) =
       | true ↦ ap (λ ts. Variable v ∷ ts) others
       | false ↦ others
     ]
+
+-- those seen, and then the variables among the terms, one after another
+abbrev pub with_variables : List ℕ → List Tree → List ℕ
+with_variables seen [] = seen
+with_variables seen (t ∷ ts) = with_variables (with_variable seen t) ts
+
+variables_keep : (seen vs : List ℕ) (x : ℕ) → is_in x seen ≡ true → is_in x (with_variables seen (map Variable vs)) ≡ true
+variables_keep seen [] x h = h
+variables_keep seen (v ∷ vs) x h = variables_keep (distinct_from seen (Variable v)) vs x (distinct_keeps seen (Variable v) x h)
+
+variables_cover : (seen vs : List ℕ) (x : ℕ) → is_in x vs ≡ true → is_in x (with_variables seen (map Variable vs)) ≡ true
+variables_cover seen [] x h = absurd (false≢true h)
+variables_cover seen (v ∷ vs) x h =
+    elim (or_cases (v == x) (is_in x vs) h) [
+      | inl here ↦ variables_keep (distinct_from seen (Variable v)) vs x (distinct_covers seen (Variable v) x here)
+      | inr later ↦ variables_cover (distinct_from seen (Variable v)) vs x later
+    ]
+
+variables_push : (seen vs : List ℕ) (n : ℕ)
+    → with_variables seen (map Variable (vs ++ n ∷ [])) ≡ distinct_from (with_variables seen (map Variable vs)) (Variable n)
+variables_push seen [] n = refl
+variables_push seen (v ∷ vs) n = variables_push (distinct_from seen (Variable v)) vs n
+
+-- a variable that was added adds nothing again
+variable_again : (seen vs : List ℕ) (n : ℕ) → is_in n vs ≡ true
+    → with_variables seen (map Variable vs) ≡ distinct_from (with_variables seen (map Variable vs)) (Variable n)
+variable_again seen vs n old = rw (variables_cover seen vs n old) refl
+
+variables_come : (seen vs : List ℕ) (t : Tree)
+    → with_variables seen (map Variable (distinct_from vs t)) ≡ distinct_from (with_variables seen (map Variable vs)) t
+variables_come seen vs (Variable n) =
+    elim (cases_Bool (is_in n vs)) [
+      | inl old ↦ ap (λ b. with_variables seen (map Variable (if b then vs else vs ++ n ∷ []))) old ∙ variable_again seen vs n old
+      | inr new ↦ ap (λ b. with_variables seen (map Variable (if b then vs else vs ++ n ∷ []))) new ∙ variables_push seen vs n
+    ]
+variables_come seen vs (Integer z) = refl
+variables_come seen vs (Name a) = refl
+variables_come seen vs (Apply f ts) = variables_come seen vs ts
+variables_come seen vs End = refl
+variables_come seen vs (More t ts) =
+    variables_come seen (distinct_from vs t) ts ∙ ap (λ us. distinct_from us ts) (variables_come seen vs t)
+
+-- the variables of a term, one after another, add what the term does
+pub variables_added : (seen : List ℕ) (t : Tree) → with_variables seen (map Variable (variables t)) ≡ distinct_from seen t
+variables_added seen t = variables_come seen [] t
+
+-- one term more was gone through
+pub variables_more : (ts : List Tree) (k : ℕ) (t : Tree) (seen : List ℕ) → drop k ts ≡ t ∷ drop (k + 1) ts
+    → with_variables (with_variable seen t) (drop (k + 1) ts) ≡ with_variables seen (drop k ts)
+variables_more ts k t seen next = ap (with_variables seen) (sym next)

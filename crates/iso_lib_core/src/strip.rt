@@ -5,32 +5,43 @@ ghost use Rattle.iso_model.specs.Terms.Trees.{Variable};
 ghost use Rattle.iso_model.specs.Terms.Variables.{is_in, distinct_from, variables};
 ghost use Rattle.iso_model.specs.Search.Groups.{stripped, bound_terms, free_variables};
 ghost use Rattle.iso_store_core.specs.Presents.{Holds, meaning};
-ghost use Rattle.iso_lib_core.specs.Stripping.{is_free};
+ghost use Rattle.iso_lib_core.specs.Stripping.{is_free, with_variable};
 
 use super::lists::pair_named;
 use iso_model::{NoMemory, Numbering};
 use iso_store_core::{Shape, Store};
 use std::alloc::Global;
 
-/// Adds the variables of the term that the word stands for. The error is that memory was refused.
-fn note<S: Store>(
-    alloc: Global,
-    store: &S,
-    word: S::Word,
-    bound: &mut Numbering,
-) -> Result<(), NoMemory>
+/// Adds what the word stands for, where that is a variable. The error is that memory was refused.
+fn note_variable<S: Store>(store: &S, word: S::Word, bound: &mut Numbering) -> Result<(), NoMemory>
+    requires word { Holds (S.present store.now) word }
+    ensures numbers { OnOk result (bound.new ≡ with_variable bound.old (meaning (S.present store.now) word)) }
+{
+    match store.shape(word) {
+        Shape::Var(number) => {
+            bound.note(number)?;
+            Ok(())
+        }
+        _ => Ok(()),
+    }
+}
+
+/// Adds the variables of the term that the word stands for. Goes once through the cells of the term, also where its
+/// parts are shared. The error is that memory was refused.
+fn note<S: Store>(store: &S, word: S::Word, bound: &mut Numbering) -> Result<(), NoMemory>
     requires word { Holds (S.present store.now) word }
     ensures numbers { OnOk result (bound.new ≡ distinct_from bound.old (meaning (S.present store.now) word)) }
 {
-    let term = store.copy_out(word)?;
-    bound.note_all(alloc, &term)?;
+    let variables = store.variables(word)?;
+    for variable in variables.as_slice() {
+        note_variable(store, *variable, bound)?;
+    }
     Ok(())
 }
 
 /// What is left of the goal behind each `V^` that it begins with; the variables of each V come to those that are bound.
 /// The error is that memory was refused.
 fn strip_bound<S: Store>(
-    alloc: Global,
     store: &S,
     goal: S::Word,
     bound: &mut Numbering,
@@ -42,7 +53,7 @@ fn strip_bound<S: Store>(
 {
     let mut rest = goal;
     while let Some((term, next)) = pair_named(store, rest, "^") {
-        note(alloc, store, term, bound)?;
+        note(store, term, bound)?;
         rest = next;
     }
     Ok(rest)
@@ -117,8 +128,8 @@ pub fn strip<S: Store>(
         ≡ map Variable (free_variables (meaning (S.present store.now) template) (meaning (S.present store.now) goal))) }
 {
     let mut bound = Numbering::new(alloc);
-    note(alloc, store, template, &mut bound)?;
-    let stripped = strip_bound(alloc, store, goal, &mut bound)?;
+    note(store, template, &mut bound)?;
+    let stripped = strip_bound(store, goal, &mut bound)?;
     let free = free(alloc, store, stripped, &bound)?;
     Ok((stripped, free))
 }
