@@ -4,7 +4,7 @@ use Rattle.std.proofs.Common.{arith, inl, inr, Vec, Global}
 use Rattle.iso_atoms.specs.Texts.{KeepsTexts}
 use Rattle.iso_model.specs.Search.Bodies.{Body, And, Or, If, Choose}
 use Rattle.iso_model.specs.Search.Walker.{State, Member, Goal, CutTo, Alternative, AsIs, Goes, pushed, step}
-use Rattle.iso_model.specs.Search.Runs.{ComesOver}
+use Rattle.iso_search.specs.Limits.{ComesFull}
 use Rattle.iso_store_core.specs.Presents.{Present, KeepsMarks}
 use Rattle.iso_store_core.specs.declared.stores.Store.{Ghosts}
 use Rattle.iso_prep.specs.declared.bodies.Node.{Node}
@@ -104,7 +104,7 @@ module _ {S L W M K P C N B O : Type 0} (g : Ghosts S W M) (l : lists.Ghosts L S
 
   -- where no choice may be made any more, the frames may be full
   pub full_over : (e : Search S L W M K P C N B O) (s : State) → Represents g l e s
-      → (e.limit ≤ length e.choices.items → ComesOver e.limit s)
+      → (e.limit ≤ length e.choices.items → ComesFull e.limit s)
       → (e.limit ≤ length e.choices.items) ⊎ ((t : State) → Represents g l e t → m.over e.limit t)
       → m.over e.limit s
   full_over e s r comes (inl full) = laws.spans e.limit s (comes full)
@@ -284,7 +284,7 @@ module _ {S L W M K P C N B O : Type 0} (g : Ghosts S W M) (l : lists.Ghosts L S
           (a.list ∙ ap (λ (x : Body). Goal x f.height ∷ a.behind) b.is)
 
       -- the choice would be one too many
-      pub either_over : e.limit ≤ length e.choices.items → ComesOver e.limit s
+      pub either_over : e.limit ≤ length e.choices.items → ComesFull e.limit s
       either_over full =
           let a = at h.asks in
           let b = (or_parts d h).3 in
@@ -357,7 +357,7 @@ module _ {S L W M K P C N B O : Type 0} (g : Ghosts S W M) (l : lists.Ghosts L S
           step_is own (Goal (Choose b.first b.second b.third) f.height ∷ a.behind)
           (a.list ∙ ap (λ (x : Body). Goal x f.height ∷ a.behind) b.is)
 
-      pub choose_over : e.limit ≤ length e.choices.items → ComesOver e.limit s
+      pub choose_over : e.limit ≤ length e.choices.items → ComesFull e.limit s
       choose_over full =
           let many = choices_length l r.engine.choices in
           comes_over g l e s r (record own { list = chosen; stack = failed }) e.limit choose_goes refl

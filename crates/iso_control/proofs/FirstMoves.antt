@@ -5,7 +5,7 @@ use Rattle.std.specs.List.{slice_get}
 use Rattle.iso_model.specs.Terms.Trees.{Tree}
 use Rattle.iso_model.specs.Terms.Substitutions.{Subst, apply}
 use Rattle.iso_model.specs.Search.Bodies.{Body, Cut, Run}
-use Rattle.iso_model.specs.Search.Runs.{ComesOver}
+use Rattle.iso_search.specs.Limits.{ComesFull}
 use Rattle.iso_model.specs.Search.Walker.{State, Member, Goal, CutTo, Fail, Leave, Gather}
 use Rattle.iso_store_core.specs.Presents.{Present, KeepsWords}
 use Rattle.iso_store_core.specs.declared.stores.Store.{Ghosts}
@@ -90,7 +90,7 @@ module _ {S L W M K P C N B O : Type 0} (l : lists.Ghosts L S K P C N B O W M)
     pub leading : ComesFirst l m.nodes m.leads
     pub led_cost : CostsMember l m.nodes m.leads
     pub led_pending : TakesNone l m.nodes m.leads
-    pub spans : (limit : ℕ) (s : State) → ComesOver limit s → m.over limit s
+    pub spans : (limit : ℕ) (s : State) → ComesFull limit s → m.over limit s
     pub all : (x : L) → l.within x (l.whole x)
     pub top : (x : L) (k : K) → l.within x k → l.below k (l.whole x)
     pub more : (p : Present W) (x : L) (j k : K) (i : P) (ms : List Member) → l.below j k → l.list p x j i ms

@@ -1,7 +1,7 @@
 //! Lists of goals that have nodes of bodies, and members over them.
 ghost use Rattle.std.specs.Prelude.{◌≡◌, ◌<◌, ◌≤◌, ℕ, List, ◌∷◌, IfOk, Some, length, true, false, ◌⊎◌};
 ghost use Rattle.std.specs.List.{slice_get};
-ghost use Rattle.iso_model.specs.Search.Runs.{ComesOver};
+ghost use Rattle.iso_search.specs.Limits.{ComesFull};
 ghost use Rattle.iso_model.specs.Search.Walker.{State, Member};
 ghost use Rattle.iso_prep.specs.declared.bodies.Node.{Node};
 ghost use Rattle.iso_store_core.specs.Presents.{Present};
@@ -67,6 +67,6 @@ pub trait Members<S: Store>: Lists<S> {
     ghost led_cost: { CostsMember Self.Lists nodes leads };
     // the member takes no cells
     ghost led_pending: { TakesNone Self.Lists nodes leads };
-    // the frames may be full where the search comes to more alternatives
-    ghost spans: { (limit : ℕ) (s : State) → ComesOver limit s → over limit s };
+    // the frames may be full where the search comes to more alternatives, and to a state that spans more
+    ghost spans: { (limit : ℕ) (s : State) → ComesFull limit s → over limit s };
 }

@@ -12,6 +12,8 @@ use Rattle.iso_model.specs.Search.Bodies.{Run}
 use Rattle.iso_model.specs.Search.Library.{library_answer}
 use Rattle.iso_model.specs.Search.Replies.{Answer}
 use Rattle.iso_model.specs.Search.Walker.{Member, Goal}
+use Rattle.iso_model.specs.Search.RunLaws.Sameness.{open_list}
+use Rattle.iso_model.proofs.Search.RunLaws.Opening.{begins_before}
 use Rattle.iso_model.specs.declared.built_ins.BuiltIn.TheVariants.{Library}
 use Rattle.iso_model.specs.declared.kinds.Library as row
 use Rattle.iso_model.specs.declared.kinds.Library.TheVariants as library
@@ -140,7 +142,7 @@ module _ {W : Type 0} (atom_word : ℕ → W) (p : Present W) (nodes : List (Nod
     pub above : 0 < r.address
     pub mark : ℕ
     pub behind : List Member
-    pub is : all ≡ Goal (Run (apply (word_terms p own) goal)) mark ∷ behind
+    pub is : open_list all ≡ Goal (Run (apply (word_terms p own) goal)) mark ∷ behind
     pub list : Chain atom_word p (stack nodes frames words) (Some (below r)) behind
 
   -- and these are the words of its clause's variables
@@ -174,7 +176,9 @@ module _ {W : Type 0} (atom_word : ℕ → W) {p : Present W} {nodes : List (Nod
         above = (let is = t.is in omega (arith, is));
         mark = t.mark;
         behind = t.behind ++ h.behind;
-        is = h.is ∙ ap (λ (ms : List Member). ms ++ h.behind) t.are;
+        is = ap open_list h.is
+            ∙ begins_before h.ms (Goal (Run (apply (word_terms p (environment words f.top code.value)) t.goal)) t.mark)
+            t.behind h.behind t.are;
         list =
             subst (λ (a : ℕ). Chain atom_word p (stack nodes frames words)
             (Some (record { frame = r.frame; address = a })) (t.behind ++ h.behind)) address
@@ -287,7 +291,7 @@ module _ {W : Type 0} {atom_word : ℕ → W} {p : Present W} {nodes : List (Nod
       (subst (IsLoadedInstruction names h.first.low h.first.compiled_instruction) same loads_now) h.first.comes
 
   -- a goal that comes first of the list is this one
-  first_value : (t : Tree) (mark : ℕ) (behind : List Member) → all ≡ Goal (Run t) mark ∷ behind
+  first_value : (t : Tree) (mark : ℕ) (behind : List Member) → open_list all ≡ Goal (Run t) mark ∷ behind
       → apply p.substitution t ≡ value
   first_value t mark behind is =
       let there : List W = environment words f.top code.value in
@@ -362,7 +366,7 @@ module _ {W : Type 0} {atom_word : ℕ → W} {p : Present W} {nodes : List (Nod
     pub is_said : (Says : Answer → Type 0)
         → ((next : ℕ) (s : Subst) (ks : List expressions.Step) → StandFor p part next s
         → AllZip (IsStep names) ks slice → Says (evaluated next s (part_at names 0 left) ks))
-        → (t : Tree) (mark : ℕ) (behind : List Member) (x : row.Library) → all ≡ Goal (Run t) mark ∷ behind
+        → (t : Tree) (mark : ℕ) (behind : List Member) (x : row.Library) → open_list all ≡ Goal (Run t) mark ∷ behind
         → IsBuiltIn (apply p.substitution t) (Library x) → Says (library_answer x (apply p.substitution t))
     is_said Says said t mark behind x first of_row =
         let same_value = first_value t mark behind first in

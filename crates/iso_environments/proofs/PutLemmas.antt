@@ -12,6 +12,8 @@ use Rattle.iso_model.specs.Terms.Substitutions.{apply}
 use Rattle.iso_model.specs.Terms.Unification.Applied.{apply_none}
 use Rattle.iso_model.specs.Search.Bodies.{Run}
 use Rattle.iso_model.specs.Search.Walker.{Member, Goal}
+use Rattle.iso_model.specs.Search.RunLaws.Sameness.{open_list}
+use Rattle.iso_model.proofs.Search.RunLaws.Opening.{begins_before}
 use Rattle.iso_store_core.specs.Presents.{Present, Holds, KeepsWords, meaning}
 use Rattle.iso_store_core.proofs.AtomLemmas.{text-is}
 use Rattle.iso_search_core.specs.Words.{word_terms}
@@ -114,7 +116,7 @@ module _ {W : Type 0} (atom_word : ℕ → W) (p : Present W) (nodes : List (Nod
       pub hold : All (Holds p) own
       pub mark : ℕ
       pub behind : List Member
-      pub is : all ≡ Goal (Run (apply (word_terms p own) goal)) mark ∷ behind
+      pub is : open_list all ≡ Goal (Run (apply (word_terms p own) goal)) mark ∷ behind
       pub list : Chain atom_word p (stack nodes frames words) place behind
 
     -- and these are the words of its clause's variables
@@ -147,7 +149,9 @@ module _ {W : Type 0} (atom_word : ℕ → W) {p : Present W} {nodes : List (Nod
         hold = h.left.hold;
         mark = t.mark;
         behind = t.behind ++ h.behind;
-        is = h.is ∙ ap (λ (ms : List Member). ms ++ h.behind) t.are;
+        is = ap open_list h.is
+            ∙ begins_before h.ms (Goal (Run (apply (word_terms p (environment words f.top code.value)) t.goal)) t.mark)
+            t.behind h.behind t.are;
         list =
             subst (λ (a : ℕ). Chain atom_word p (stack nodes frames words)
             (Some (record { frame = r.frame; address = a })) (t.behind ++ h.behind)) address
@@ -170,7 +174,9 @@ module _ {W : Type 0} (atom_word : ℕ → W) {p : Present W} {nodes : List (Nod
     hold = h.left.hold;
     mark = t.mark;
     behind = h.behind;
-    is = h.is ∙ ap (λ (ms : List Member). ms ++ h.behind) t.are;
+    is = ap open_list h.is
+        ∙ begins_before h.ms (Goal (Run (apply (word_terms p (environment words f.top code.value)) t.goal)) t.mark)
+        [] h.behind t.are;
     list = h.chain;
   }
 

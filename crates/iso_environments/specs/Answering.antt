@@ -8,6 +8,7 @@ use Rattle.iso_model.specs.Terms.Substitutions.{apply}
 use Rattle.iso_model.specs.Search.Bodies.{Run}
 use Rattle.iso_model.specs.Search.Library.{library_answer}
 use Rattle.iso_model.specs.Search.Walker.{Member, Goal}
+use Rattle.iso_model.specs.Search.RunLaws.Sameness.{open_list}
 use Rattle.iso_model.specs.declared.kinds.Library.{Library}
 use Rattle.iso_model.specs.declared.built_ins.BuiltIn.TheVariants as built_in
 use Rattle.iso_store_core.specs.Presents.{Present, KeepsWords}
@@ -52,14 +53,14 @@ pub record IsBelow (frames : List Frame) (r : Rest) : Type 0 where
   pub cost : cost_of frames (Some (below r)) < cost_of frames (Some r)
   pub pending : pending_of frames (Some (below r)) ≤ pending_of frames (Some r)
 
--- The goal that comes first of the list is one of this row of the built-ins, and this is what it comes to. The list
--- behind it begins one address below, where words are kept.
+-- The goal that comes first of the list, conjunctions in front taken apart, is one of this row of the built-ins, and
+-- this is what it comes to. The list behind it begins one address below, where words are kept.
 pub record HasAnswered {W : Type 0} (atom_word : ℕ → W) (p q : Present W) (k : Stack W) (r : Rest) (all : List Member)
     (result : Result Reply Fault) : Type 0 where
   pub term : Tree
   pub mark : ℕ
   pub behind : List Member
-  pub is : all ≡ Goal (Run term) mark ∷ behind
+  pub is : open_list all ≡ Goal (Run term) mark ∷ behind
   pub row : Library
   pub of_row : IsBuiltIn (apply p.substitution term) (built_in.Library row)
   pub replies : IsReply p q (library_answer row (apply p.substitution term)) result

@@ -3,7 +3,6 @@ use Rattle.std.specs.Prelude.{◌≡◌, ℕ, List, [], ◌∷◌, length, Bool,
 use Rattle.std.specs.List.{All}
 use Rattle.iso_model.specs.Search.Databases as databases
 use Rattle.iso_model.specs.Search.Walker.{Member}
-use Rattle.iso_model.specs.Search.RunLaws.Sameness.{flat}
 use Rattle.iso_store_core.specs.Presents.{Present, Holds}
 use Rattle.iso_compile.specs.Clauses.{body_members}
 use Rattle.iso_search_core.specs.Words.{word_terms}
@@ -25,7 +24,7 @@ pub record HasEnvironment {W : Type 0} (atom_word : ℕ → W) (p : Present W) (
 -- what the body of the clause is, where its variables have these words, it was called at this height, and no slot keeps
 -- a level
 abbrev pub clause_members : {W : Type 0} → Present W → List W → ℕ → databases.Clause → List Member
-clause_members p words height c = flat (placed (word_terms p words) height (λ slot. 0) (body_members true c.body))
+clause_members p words height c = placed (word_terms p words) height (λ slot. 0) (body_members true c.body)
 
 -- the code of a body is `proceed` alone
 abbrev pub ends_alone : List Instruction → Bool

@@ -8,6 +8,7 @@ use Rattle.iso_model.specs.Terms.Trees.{Tree}
 use Rattle.iso_model.specs.Terms.Substitutions.{apply}
 use Rattle.iso_model.specs.Search.Bodies.{Run}
 use Rattle.iso_model.specs.Search.Walker.{Member, Goal}
+use Rattle.iso_model.specs.Search.RunLaws.Sameness.{open_list}
 use Rattle.iso_store_core.specs.Presents.{Present, Holds, meaning}
 use Rattle.iso_compile.specs.Orders.{parts_cells}
 use Rattle.iso_code.specs.Loaded.{part_at}
@@ -61,14 +62,14 @@ pub record IsBehind (frames : List Frame) (r : Rest) (g : instruction.Goal) (man
   pub cost : cost_of frames place < cost_of frames (Some r)
   pub pending : arguments_cells g + compound_cells many + pending_of frames place ≤ pending_of frames (Some r)
 
--- The goal that comes first of the list has this name and words for these arguments, and the list behind it begins at
--- the place. These are the names of atoms.
+-- The goal that comes first of the list, conjunctions in front taken apart, has this name and words for these
+-- arguments, and the list behind it begins at the place. These are the names of atoms.
 pub record HasPut {W : Type 0} (atom_word : ℕ → W) (names : List (List ℕ)) (q : Present W) (k : Stack W) (put : Put)
     (arguments : List W) (all : List Member) : Type 0 where
   pub term : Tree
   pub mark : ℕ
   pub behind : List Member
-  pub is : all ≡ Goal (Run term) mark ∷ behind
+  pub is : open_list all ≡ Goal (Run term) mark ∷ behind
   pub name : put.name < length names
   pub value : apply q.substitution term ≡ goal_of (text_at names put.name) (map (meaning q) arguments)
   pub hold : All (Holds q) arguments

@@ -5,6 +5,7 @@ ghost use Rattle.iso_model.specs.Terms.Substitutions.{apply};
 ghost use Rattle.iso_model.specs.Search.Bodies.{Run};
 ghost use Rattle.iso_model.specs.Search.Library.{library_answer};
 ghost use Rattle.iso_model.specs.Search.Walker as walker;
+ghost use Rattle.iso_model.specs.Search.RunLaws.Sameness.{open_list};
 ghost use Rattle.iso_model.specs.declared.kinds.Library.{Library};
 ghost use Rattle.iso_model.specs.declared.built_ins.BuiltIn.TheVariants as built_in;
 ghost use Rattle.iso_store_core.specs.Retaining.{RetainsAll, Takes};
@@ -46,9 +47,10 @@ pub fn answer<S: Cells>(
     ensures places { (nodes : List (Node S.Word)) (all : List walker.Member)
         → Chain S.atom_word (S.present store.old) (stack nodes frames.now words.now) (Some rest) all
         → IsBelow frames.now rest }
-    ensures cells { (nodes : List (Node S.Word)) (term : Tree) (mark : ℕ) (behind : List walker.Member) (row : Library)
-        → Chain S.atom_word (S.present store.old) (stack nodes frames.now words.now) (Some rest)
-        (walker.Goal (Run term) mark ∷ behind)
+    ensures cells { (nodes : List (Node S.Word)) (all : List walker.Member) (term : Tree) (mark : ℕ)
+        (behind : List walker.Member) (row : Library)
+        → Chain S.atom_word (S.present store.old) (stack nodes frames.now words.now) (Some rest) all
+        → open_list all ≡ walker.Goal (Run term) mark ∷ behind
         → IsBuiltIn (apply (S.present store.old).substitution term) (built_in.Library row)
         → Takes S.Store store.old store.new
         (made_for (library_answer row (apply (S.present store.old).substitution term))) }

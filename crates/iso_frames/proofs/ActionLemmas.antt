@@ -5,7 +5,7 @@ use Rattle.iso_model.specs.Terms.Trees.{Tree}
 use Rattle.iso_model.specs.Terms.Substitutions.{Subst}
 use Rattle.iso_model.specs.Search.Bodies as bodies
 use Rattle.iso_model.specs.Search.Bodies.{Body, Run, And, Or, If, Choose}
-use Rattle.iso_model.specs.Search.RunLaws.Sameness.{flat}
+use Rattle.iso_model.specs.Search.RunLaws.Sameness.{open_list}
 use Rattle.iso_prep.specs.Classes.{goals_of}
 use Rattle.iso_prep.specs.Trees.{At}
 use Rattle.iso_alloc.specs.Plans.{Layout}
@@ -32,13 +32,25 @@ pub record Opened (plan : Layout) (code : List compiled.Instruction) (a : ℕ) (
   pub continues : Continues plan code a members
   pub apart : IsApart members
   pub same : (s : Subst) (called : ℕ) (kept : ℕ → ℕ)
-      → flat (placed s called kept ms) ≡ flat (placed s called kept members)
+      → open_list (placed s called kept ms) ≡ placed s called kept members
   pub fits : (count : ℕ) → FitMembers count ms → FitMembers count members
+
+-- where none comes first, none is taken apart
+apart_open : (s : Subst) (called : ℕ) (kept : ℕ → ℕ) (ms : List Member) → IsApart ms
+    → open_list (placed s called kept ms) ≡ placed s called kept ms
+apart_open s called kept [] apart = refl
+apart_open s called kept (Goal bodies.Cut m ∷ ms) apart = refl
+apart_open s called kept (Goal (Run t) m ∷ ms) apart = refl
+apart_open s called kept (Goal (And x y) m ∷ ms) apart = absurd apart
+apart_open s called kept (Goal (Or x y) m ∷ ms) apart = refl
+apart_open s called kept (Goal (If x y) m ∷ ms) apart = refl
+apart_open s called kept (Goal (Choose x y z) m ∷ ms) apart = refl
+apart_open s called kept (CutTo m ∷ ms) apart = refl
 
 module _ {plan : Layout} {code : List compiled.Instruction} where
   already : {a : ℕ} (ms : List Member) → Continues plan code a ms → IsApart ms → Opened plan code a ms
   already ms h apart =
-      record { members = ms; continues = h; apart = apart; same = λ s called kept. refl; fits = λ count fit. fit }
+      record { members = ms; continues = h; apart = apart; same = λ s called kept. apart_open s called kept ms apart; fits = λ count fit. fit }
 
   pub opened : {a : ℕ} {ms : List Member} → ((l : ℕ) → slice_get code a ≢ Some (Jump l)) → Continues plan code a ms
       → Opened plan code a ms

@@ -5,7 +5,6 @@ use Rattle.std.proofs.lemmas.Option.{slice_get_within}
 use Rattle.std.specs.Global.{Global}
 use Rattle.std.specs.declared.rc.Rc.{Rc}
 use Rattle.iso_model.specs.Search.Walker as walker
-use Rattle.iso_model.specs.Search.RunLaws.Sameness.{flat}
 use Rattle.iso_store_core.specs.Presents.{Present, KeepsWords}
 use Rattle.iso_store_core.specs.Patterns.{at_places}
 use Rattle.iso_prep.specs.declared.bodies.Node.{Node}
@@ -42,7 +41,7 @@ module _ {W : Type 0} (atom_word : ℕ → W) where
     remains = h.remains;
     many = h.many;
     hold = words_hold words keeps h.hold;
-    are = h.are ∙ ap (λ ts. flat (placed (at_places ts) called kept h.left)) (sym (words_kept words keeps h.hold));
+    are = h.are ∙ ap (λ ts. placed (at_places ts) called kept h.left) (sym (words_kept words keeps h.hold));
   }
 
   -- what stands below the bounds of a list is all that it has
@@ -225,8 +224,8 @@ module _ {W : Type 0} (atom_word : ℕ → W) where
     chain_ended code level h none =
         subst (Chain atom_word p k f.behind)
         (sym (h.is ∙ ap (λ (ms : List walker.Member). ms ++ h.behind)
-        (h.left.are ∙ ap (λ (ms : List Member). flat
-        (placed (word_terms p (environment k.words f.top code.value)) f.height h.kept ms)) none))) h.chain
+        (h.left.are ∙ ap (λ (ms : List Member). placed (word_terms p (environment k.words f.top code.value)) f.height
+        h.kept ms) none))) h.chain
 
   -- what ends a thrown ball passes fall
   pub falls_behind : (place : Option Rest) (r : Rest) → IsBefore place r.frame → depth_of place < depth_of (Some r)

@@ -6,7 +6,7 @@ use Rattle.iso_model.specs.Terms.Substitutions.{Subst, apply}
 use Rattle.iso_model.specs.Search.Bodies as bodies
 use Rattle.iso_model.specs.Search.Bodies.{Body, Run, And, Or, If, Choose, map_body}
 use Rattle.iso_model.specs.Search.Walker as walker
-use Rattle.iso_model.specs.Search.RunLaws.Sameness.{put, flat}
+use Rattle.iso_model.specs.Search.RunLaws.Sameness.{open_list}
 use Rattle.iso_store_core.specs.Presents.{Present}
 use Rattle.iso_prep.specs.Classes.{goals_of}
 use Rattle.iso_compile.specs.Control.{Member, Goal, CutTo, IsOlder, AreOlder, IsCall, Continues, height}
@@ -76,7 +76,7 @@ module _ {W : Type 0} (atom_word : ℕ → W) (p : Present W) (code : Code) (ws 
       pub template : IsTemplate code.variables goal
       pub mark : ℕ
       pub behind : List walker.Member
-      pub are : ms ≡ walker.Goal (Run (apply (word_terms p ws) goal)) mark ∷ behind
+      pub are : open_list ms ≡ walker.Goal (Run (apply (word_terms p ws) goal)) mark ∷ behind
       pub left : LeftAt kept below behind
 
     -- the last goal is called
@@ -89,7 +89,7 @@ module _ {W : Type 0} (atom_word : ℕ → W) (p : Present W) (code : Code) (ws 
       pub call : IsCall body.plan.registers compiled_call goal
       pub template : IsTemplate code.variables goal
       pub mark : ℕ
-      pub are : ms ≡ walker.Goal (Run (apply (word_terms p ws) goal)) mark ∷ []
+      pub are : open_list ms ≡ walker.Goal (Run (apply (word_terms p ws) goal)) mark ∷ []
 
     -- arithmetic is done
     pub record AnswerLeft (i : Instruction) : Type 0 where
@@ -104,7 +104,7 @@ module _ {W : Type 0} (atom_word : ℕ → W) (p : Present W) (code : Code) (ws 
       pub template : IsTemplate code.variables goal
       pub mark : ℕ
       pub behind : List walker.Member
-      pub are : ms ≡ walker.Goal (Run (apply (word_terms p ws) goal)) mark ∷ behind
+      pub are : open_list ms ≡ walker.Goal (Run (apply (word_terms p ws) goal)) mark ∷ behind
       pub left : LeftAt kept below behind
 
     -- a cut is done
@@ -112,8 +112,8 @@ module _ {W : Type 0} (atom_word : ℕ → W) (p : Present W) (code : Code) (ws 
       pub below : ℕ
       pub is : a ≡ suc below
       pub behind : List walker.Member
-      pub are : (ms ≡ walker.Goal bodies.Cut (height called kept m) ∷ behind)
-          ⊎ (ms ≡ walker.CutTo (height called kept m) ∷ behind)
+      pub are : (open_list ms ≡ walker.Goal bodies.Cut (height called kept m) ∷ behind)
+          ⊎ (open_list ms ≡ walker.CutTo (height called kept m) ∷ behind)
       pub left : LeftAt kept below behind
 
     -- a disjunction
@@ -125,9 +125,9 @@ module _ {W : Type 0} (atom_word : ℕ → W) (p : Present W) (code : Code) (ws 
       pub other : Body
       pub mark : ℕ
       pub behind : List walker.Member
-      pub are : ms ≡ walker.Goal (Or first other) mark ∷ behind
-      pub here : LeftAt kept below (put first mark behind)
-      pub there : LeftAt kept l (put other mark behind)
+      pub are : open_list ms ≡ walker.Goal (Or first other) mark ∷ behind
+      pub here : LeftAt kept below (walker.Goal first mark ∷ behind)
+      pub there : LeftAt kept l (walker.Goal other mark ∷ behind)
 
     -- an if-then, where the slot keeps a height
     pub record CommitLeft (k : ℕ) : Type 0 where
@@ -137,8 +137,9 @@ module _ {W : Type 0} (atom_word : ℕ → W) (p : Present W) (code : Code) (ws 
       pub next : Body
       pub mark : ℕ
       pub behind : List walker.Member
-      pub are : ms ≡ walker.Goal (If condition next) mark ∷ behind
-      pub here : (n : ℕ) → LeftAt (with_level k n kept) below (put condition n (walker.CutTo n ∷ put next mark behind))
+      pub are : open_list ms ≡ walker.Goal (If condition next) mark ∷ behind
+      pub here : (n : ℕ) → LeftAt (with_level k n kept) below
+          (walker.Goal condition n ∷ walker.CutTo n ∷ walker.Goal next mark ∷ behind)
 
     -- an if-then-else, where the slot keeps a height: an alternative is kept at the address below
     pub record ChooseLeft (k : ℕ) : Type 0 where
@@ -152,10 +153,10 @@ module _ {W : Type 0} (atom_word : ℕ → W) (p : Present W) (code : Code) (ws 
       pub other : Body
       pub mark : ℕ
       pub behind : List walker.Member
-      pub are : ms ≡ walker.Goal (Choose condition next other) mark ∷ behind
+      pub are : open_list ms ≡ walker.Goal (Choose condition next other) mark ∷ behind
       pub here : (n : ℕ) → LeftAt (with_level k n kept) below
-          (put condition (suc n) (walker.CutTo n ∷ put next mark behind))
-      pub there : (n : ℕ) → LeftAt (with_level k n kept) alternative (put other mark behind)
+          (walker.Goal condition (suc n) ∷ walker.CutTo n ∷ walker.Goal next mark ∷ behind)
+      pub there : (n : ℕ) → LeftAt (with_level k n kept) alternative (walker.Goal other mark ∷ behind)
 
     -- what is left where this instruction is, which does something
     abbrev pub LeftActs : Instruction → Type 0
@@ -174,7 +175,7 @@ module _ {W : Type 0} (atom_word : ℕ → W) (p : Present W) (code : Code) (ws 
 
     -- the same body at another address
     on : (levels : ℕ → ℕ) (b : ℕ) (rest : List Member) → Continues h.body.plan h.body.body b rest
-        → FitMembers code.variables rest → LeftAt levels b (flat (placed terms called levels rest))
+        → FitMembers code.variables rest → LeftAt levels b (placed terms called levels rest)
     on levels b rest continues fit = record {
       body = h.body;
       left = rest;
@@ -187,9 +188,9 @@ module _ {W : Type 0} (atom_word : ℕ → W) (p : Present W) (code : Code) (ws 
 
     -- the members that the instruction is for
     module _ (xs : List Member) (fit : FitMembers code.variables xs)
-        (members : ms ≡ flat (placed terms called kept xs)) where
-      they_are : (ys : List Member) → xs ≡ ys → ms ≡ flat (placed terms called kept ys)
-      they_are ys same = members ∙ ap (λ (zs : List Member). flat (placed terms called kept zs)) same
+        (members : open_list ms ≡ placed terms called kept xs) where
+      they_are : (ys : List Member) → xs ≡ ys → open_list ms ≡ placed terms called kept ys
+      they_are ys same = members ∙ ap (λ (zs : List Member). placed terms called kept zs) same
 
       fit_there : (ys : List Member) → xs ≡ ys → FitMembers code.variables ys
       fit_there ys same = subst (FitMembers code.variables) same fit
@@ -210,7 +211,7 @@ module _ {W : Type 0} (atom_word : ℕ → W) (p : Present W) (code : Code) (ws 
             call = t.call;
             template = (fits.0).0;
             mark = height called kept t.mark;
-            behind = flat (placed terms called kept t.rest);
+            behind = placed terms called kept t.rest;
             are = they_are (Goal (Run t.goal) t.mark ∷ t.rest) t.are;
             left = on kept t.below t.rest t.on fits.1;
           }
@@ -249,7 +250,7 @@ module _ {W : Type 0} (atom_word : ℕ → W) (p : Present W) (code : Code) (ws 
             comes = t.comes;
             template = (fits.0).0;
             mark = height called kept t.mark;
-            behind = flat (placed terms called kept t.rest);
+            behind = placed terms called kept t.rest;
             are = they_are (Goal (Run t.goal) t.mark ∷ t.rest) t.are;
             left = on kept t.below t.rest t.on fits.1;
           }
@@ -260,14 +261,14 @@ module _ {W : Type 0} (atom_word : ℕ → W) (p : Present W) (code : Code) (ws 
             | inl same ↦ record {
               below = t.below;
               is = t.is;
-              behind = flat (placed terms called kept t.rest);
+              behind = placed terms called kept t.rest;
               are = inl (they_are (Goal bodies.Cut m ∷ t.rest) same);
               left = on kept t.below t.rest t.on (fit_there (Goal bodies.Cut m ∷ t.rest) same).1;
             }
             | inr same ↦ record {
               below = t.below;
               is = t.is;
-              behind = flat (placed terms called kept t.rest);
+              behind = placed terms called kept t.rest;
               are = inr (they_are (CutTo m ∷ t.rest) same);
               left = on kept t.below t.rest t.on (fit_there (CutTo m ∷ t.rest) same);
             }
@@ -285,7 +286,7 @@ module _ {W : Type 0} (atom_word : ℕ → W) (p : Present W) (code : Code) (ws 
             first = map_body terms t.first;
             other = map_body terms t.other;
             mark = height called kept t.mark;
-            behind = flat (placed terms called kept t.rest);
+            behind = placed terms called kept t.rest;
             are = they_are (Goal (Or t.first t.other) t.mark ∷ t.rest) t.are;
             here = on kept t.below (Goal t.first t.mark ∷ t.rest) t.here (both.0, fits.1);
             there = on kept l (Goal t.other t.mark ∷ t.rest) t.there (both.1, fits.1);
@@ -302,11 +303,11 @@ module _ {W : Type 0} (atom_word : ℕ → W) (p : Present W) (code : Code) (ws 
             condition = map_body terms t.condition;
             next = map_body terms t.next;
             mark = height called kept t.mark;
-            behind = flat (placed terms called kept t.rest);
+            behind = placed terms called kept t.rest;
             are = they_are (Goal (If t.condition t.next) t.mark ∷ t.rest) t.are;
             here = λ n. subst (LeftAt (with_level k n kept) t.below)
-                (ap₂ (λ (v : ℕ) (ys : List walker.Member). put (map_body terms t.condition) v
-                (walker.CutTo v ∷ flat ys)) (with_same k n kept)
+                (ap₂ (λ (v : ℕ) (ys : List walker.Member). walker.Goal (map_body terms t.condition) v
+                ∷ walker.CutTo v ∷ ys) (with_same k n kept)
                 (placed_older terms k n called kept (Goal t.next t.mark ∷ t.rest) t.older))
                 (on (with_level k n kept) t.below
                 (Goal t.condition (Level k) ∷ CutTo (Level k) ∷ Goal t.next t.mark ∷ t.rest) t.here
@@ -332,17 +333,17 @@ module _ {W : Type 0} (atom_word : ℕ → W) (p : Present W) (code : Code) (ws 
             next = map_body terms t.next;
             other = map_body terms t.other;
             mark = height called kept t.mark;
-            behind = flat (placed terms called kept t.rest);
+            behind = placed terms called kept t.rest;
             are = they_are (Goal (Choose t.condition t.next t.other) t.mark ∷ t.rest) t.are;
             here = λ n. subst (LeftAt (with_level k n kept) t.below)
-                (ap₂ (λ (v : ℕ) (ys : List walker.Member). put (map_body terms t.condition) (suc v)
-                (walker.CutTo v ∷ flat ys)) (with_same k n kept)
+                (ap₂ (λ (v : ℕ) (ys : List walker.Member). walker.Goal (map_body terms t.condition) (suc v)
+                ∷ walker.CutTo v ∷ ys) (with_same k n kept)
                 (placed_older terms k n called kept (Goal t.next t.mark ∷ t.rest) t.older))
                 (on (with_level k n kept) t.below
                 (Goal t.condition (AboveLevel k) ∷ CutTo (Level k) ∷ Goal t.next t.mark ∷ t.rest) t.here
                 (all.0, (both.0, fits.1)));
             there = λ n. subst (LeftAt (with_level k n kept) t.alternative)
-                (ap flat (placed_older terms k n called kept (Goal t.other t.mark ∷ t.rest) t.older))
+                (placed_older terms k n called kept (Goal t.other t.mark ∷ t.rest) t.older)
                 (on (with_level k n kept) t.alternative (Goal t.other t.mark ∷ t.rest) t.there (both.1, fits.1));
           }
 
@@ -369,7 +370,7 @@ module _ {W : Type 0} (atom_word : ℕ → W) (p : Present W) (code : Code) (ws 
         h.remains.loaded there in
         let one = opened (λ l e. stops.jump l (there ∙ ap Some (is_jump c.0 l c.1 e c.2))) h.remains.continues in
         by_instruction one.members (one.fits code.variables h.remains.fit)
-        (h.are ∙ one.same terms called kept) c.0 i c.2
+        (ap open_list h.are ∙ one.same terms called kept) c.0 i c.2
         (acts h.body.plan h.body.body c.0 c.1 one.apart one.continues)
       where
         is_jump : (c : compiled.Instruction) (l : ℕ) → slice_get h.body.body a ≡ Some c

@@ -6,7 +6,6 @@ pub mod StackLemmas
 pub mod ChainLemmas
 pub mod PushLemmas
 pub mod PassLemmas
-pub mod FlatLemmas
 pub mod ValueLemmas
 pub mod CostLemmas
 pub mod CodeCosts

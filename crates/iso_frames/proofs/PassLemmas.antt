@@ -3,12 +3,9 @@ use Rattle.std.proofs.Common.{ℕ, List, [], ◌∷◌, Option, None, sym, subst
 use Rattle.std.specs.Global.{Global}
 use Rattle.std.specs.declared.rc.Rc.{Rc}
 use Rattle.iso_model.specs.Terms.Substitutions.{Subst}
-use Rattle.iso_model.specs.Search.Bodies as bodies
-use Rattle.iso_model.specs.Search.Bodies.{Body, Run, And, Or, If, Choose, map_body}
 use Rattle.iso_model.specs.Search.Walker as walker
-use Rattle.iso_model.specs.Search.RunLaws.Sameness.{put, flat}
 use Rattle.iso_store_core.specs.Presents.{Present}
-use Rattle.iso_compile.specs.Control.{Member, Goal, CutTo, height}
+use Rattle.iso_compile.specs.Control.{Member, Goal, CutTo}
 use Rattle.iso_search_core.specs.Keeping.{NoLeave, Passes}
 use Rattle.iso_search_core.specs.Words.{word_terms}
 use Rattle.iso_instructions.specs.declared.instructions.Code.{Code}
@@ -19,21 +16,10 @@ use Rattle.iso_frames.specs.Running.{placed}
 use Rattle.iso_frames.specs.Frames.{Stack, Chain, environment}
 use Rattle.iso_frames.proofs.ChainLemmas.{AtClause}
 
-no_leave_put : (b : Body) (mark : ℕ) (ms : List walker.Member) → NoLeave ms → NoLeave (put b mark ms)
-no_leave_put bodies.Cut mark ms none = none
-no_leave_put (Run t) mark ms none = none
-no_leave_put (Or a b) mark ms none = none
-no_leave_put (If a b) mark ms none = none
-no_leave_put (Choose a b c) mark ms none = none
-no_leave_put (And a b) mark ms none = no_leave_put a mark (put b mark ms) (no_leave_put b mark ms none)
-
 -- members of a clause are no ends of catches
-pub no_leave_placed : (s : Subst) (called : ℕ) (kept : ℕ → ℕ) (ms : List Member)
-    → NoLeave (flat (placed s called kept ms))
+pub no_leave_placed : (s : Subst) (called : ℕ) (kept : ℕ → ℕ) (ms : List Member) → NoLeave (placed s called kept ms)
 no_leave_placed s called kept [] = tt
-no_leave_placed s called kept (Goal b m ∷ ms) =
-    no_leave_put (map_body s b) (height called kept m) (flat (placed s called kept ms))
-    (no_leave_placed s called kept ms)
+no_leave_placed s called kept (Goal b m ∷ ms) = no_leave_placed s called kept ms
 no_leave_placed s called kept (CutTo m ∷ ms) = no_leave_placed s called kept ms
 
 -- all that is left of a clause's body is passed

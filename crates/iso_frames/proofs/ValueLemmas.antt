@@ -7,7 +7,7 @@ use Rattle.iso_model.specs.Terms.Unification.Applied.{apply_apply, apply_same}
 use Rattle.iso_model.specs.Search.Bodies as bodies
 use Rattle.iso_model.specs.Search.Bodies.{Body, Run, And, Or, If, Choose, map_body}
 use Rattle.iso_model.specs.Search.Walker as walker
-use Rattle.iso_model.specs.Search.RunLaws.Sameness.{flat, SameList, no_member, same_cut}
+use Rattle.iso_model.specs.Search.RunLaws.Sameness.{SameList, no_member, same_cut}
 use Rattle.iso_model.proofs.Search.RunLaws.SameSteps.{put_alike}
 use Rattle.iso_store_core.specs.Presents.{Present, Holds}
 use Rattle.iso_prep.specs.Classes.{goals_of}
@@ -21,7 +21,6 @@ use Rattle.iso_instructions.specs.declared.instructions.Code.{Code}
 use Rattle.iso_frames.specs.declared.frames.Rest.{Rest}
 use Rattle.iso_frames.specs.Running.{placed, FitMembers, Left}
 use Rattle.iso_frames.specs.Frames.{Stack, Chain, ends, a_member, a_clause, plain_link}
-use Rattle.iso_frames.proofs.FlatLemmas.{put_append, flat_before}
 
 module _ {W : Type 0} {p q : Present W} {u : Subst} (h : HasValues p q u) where
   -- the terms of words, by their places
@@ -61,40 +60,35 @@ module _ {W : Type 0} {p q : Present W} {u : Subst} (h : HasValues p q u) where
     -- members over the words, before others
     left_values : (called : ℕ) (kept : ℕ → ℕ) (ms : List Member) (rest : List walker.Member) → FitMembers (length ws) ms
         → SameList q.substitution u rest rest
-        → SameList q.substitution u (flat (placed (word_terms p ws) called kept ms) ++ rest)
-        (flat (placed (word_terms p ws) called kept ms) ++ rest)
+        → SameList q.substitution u (placed (word_terms p ws) called kept ms ++ rest)
+        (placed (word_terms p ws) called kept ms ++ rest)
     left_values called kept [] rest fit same = same
     left_values called kept (Goal b m ∷ ms) rest fit same =
         let c = map_body (word_terms p ws) b in
-        let behind = flat (placed (word_terms p ws) called kept ms) in
-        subst (λ (xs : List walker.Member). SameList q.substitution u xs xs)
-        (put_append c (height called kept m) behind rest)
-        (put_alike q.substitution u (behind ++ rest) (behind ++ rest) c c (height called kept m) (placed_value b fit.0)
-        (left_values called kept ms rest fit.1 same))
+        let behind = placed (word_terms p ws) called kept ms ++ rest in
+        put_alike q.substitution u behind behind c c (height called kept m) (placed_value b fit.0)
+        (left_values called kept ms rest fit.1 same)
     left_values called kept (CutTo m ∷ ms) rest fit same = same_cut (left_values called kept ms rest fit same)
 
   module _ (atom_word : ℕ → W) where
     -- what is left of a body, before others
     clause_values : (code : Code) (ws : List W) (called : ℕ) (kept : ℕ → ℕ) (address : ℕ)
         (ms behind : List walker.Member) → Left atom_word p code ws called kept address ms
-        → SameList q.substitution u (flat behind) (flat behind)
-        → SameList q.substitution u (flat (ms ++ behind)) (flat (ms ++ behind))
+        → SameList q.substitution u behind behind → SameList q.substitution u (ms ++ behind) (ms ++ behind)
     clause_values code ws called kept address ms behind left same =
-        let s = word_terms p ws in
         let fit : FitMembers (length ws) left.left =
         subst (λ (n : ℕ). FitMembers n left.left) (sym left.many) left.remains.fit in
         subst (λ (xs : List walker.Member). SameList q.substitution u xs xs)
-        (sym (ap (λ (xs : List walker.Member). flat (xs ++ behind)) left.are
-        ∙ flat_before (placed s called kept left.left) behind))
-        (left_values ws left.hold called kept left.left (flat behind) fit same)
+        (sym (ap (λ (xs : List walker.Member). xs ++ behind) left.are))
+        (left_values ws left.hold called kept left.left behind fit same)
 
     -- the list from a place on
     pub chain_values : {k : Stack W} {place : Option Rest} {ms : List walker.Member} → Chain atom_word p k place ms
-        → SameList q.substitution u (flat ms) (flat ms)
+        → SameList q.substitution u ms ms
     chain_values ends = no_member
     chain_values {k = k} (a_member {f = f} {todo = todo} {m = m} {ms = ms} at below work member under within behind) =
         member_value h k.nodes (plain_link todo f.height) m ms member (chain_values behind)
     chain_values {k = k} (a_clause {r = r} {f = f} {code = code} {kept = kept} {ms = ms}
         {behind = others} at below work levels left under within behind is) =
-        subst (λ (xs : List walker.Member). SameList q.substitution u (flat xs) (flat xs)) (sym is)
+        subst (λ (xs : List walker.Member). SameList q.substitution u xs xs) (sym is)
         (clause_values code.value _ f.height kept r.address ms others left (chain_values behind))

@@ -6,7 +6,6 @@ use Rattle.iso_model.specs.Terms.Trees.{Name}
 use Rattle.iso_model.specs.Terms.Substitutions.{Subst}
 use Rattle.iso_model.specs.Search.Bodies.{map_body}
 use Rattle.iso_model.specs.Search.Walker as walker
-use Rattle.iso_model.specs.Search.RunLaws.Sameness.{flat}
 use Rattle.iso_store_core.specs.Presents.{Present, Holds}
 use Rattle.iso_prep.specs.Classes.{goals_of}
 use Rattle.iso_alloc.specs.Plans.{Layout}
@@ -55,7 +54,7 @@ module _ {W : Type 0} (atom_word : ℕ → W) where
   Knows p names = (n : ℕ) → n < length names → Holds p (atom_word n) × (p.term (atom_word n) ≡ Name (text_at names n))
 
   -- What is left of a body whose clause has these words for its variables, and was called at this height, where slots
-  -- keep these: these members, conjunctions taken apart.
+  -- keep these: these members.
   pub record Left (p : Present W) (code : Code) (words : List W) (called : ℕ) (kept : ℕ → ℕ) (address : ℕ)
       (ms : List walker.Member) : Type 0 where
     pub body : IsBody
@@ -64,4 +63,4 @@ module _ {W : Type 0} (atom_word : ℕ → W) where
     pub remains : Remains body code address left
     pub many : length words ≡ code.variables
     pub hold : All (Holds p) words
-    pub are : ms ≡ flat (placed (word_terms p words) called kept left)
+    pub are : ms ≡ placed (word_terms p words) called kept left

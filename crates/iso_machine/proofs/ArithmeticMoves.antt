@@ -13,6 +13,9 @@ use Rattle.iso_model.specs.Search.BuiltIns.{answered}
 use Rattle.iso_model.specs.Search.Engines.{IsAwake}
 use Rattle.iso_model.specs.Search.Library.{library_answer}
 use Rattle.iso_model.specs.Search.Replies.{Answer}
+use Rattle.iso_model.specs.Search.RunLaws.Sameness.{open_list}
+use Rattle.iso_model.proofs.Search.RunLaws.Opening.{opened}
+use Rattle.iso_model.proofs.Search.RunLaws.Likeness.{Alike, opened_alike}
 use Rattle.iso_model.specs.Search.Walker.{State, World, Member, Goal, idle}
 use Rattle.iso_model.specs.declared.kinds.Library.{Library}
 use Rattle.iso_model.specs.declared.built_ins.BuiltIn.TheVariants as built_in
@@ -118,11 +121,11 @@ module _ {S W M : Type 0} (atom_word : ℕ → W) {p : Present W} (l : Framed S 
         (is_first atom_word list there f code there.level code.value code.value i frame_is there.clause.work refl refl
         item_is).first
 
-    pub goal_comes : (t : Tree) × (mark : ℕ) × (behind : List Member) × (all ≡ Goal (Run t) mark ∷ behind)
+    pub goal_comes : (t : Tree) × (mark : ℕ) × (behind : List Member) × (open_list all ≡ Goal (Run t) mark ∷ behind)
     goal_comes = (_, first.mark, first.behind, first.is)
 
     -- behind it the list goes on one address below
-    pub behind_chain : (t : Tree) (mark : ℕ) (behind : List Member) → all ≡ Goal (Run t) mark ∷ behind
+    pub behind_chain : (t : Tree) (mark : ℕ) (behind : List Member) → open_list all ≡ Goal (Run t) mark ∷ behind
         → Chain atom_word p (stack_of l) (Some (below r)) behind
     behind_chain t mark behind is =
         let both = sym is ∙ first.is in
@@ -152,8 +155,8 @@ module _ {S W M : Type 0} (g : Ghosts S W M) (atom_word : ℕ → W) where
   -- by its value
   abbrev pub at_goal : (e : Engine S W M) (r : Rest) (there : IsArithmeticThere e.lists.frames.items r) (s : State)
       → IsAhead g (framed atom_word) e s (Some r) → (t : Tree) (mark : ℕ) (behind : List Member)
-      → s.list ≡ Goal (Run t) mark ∷ behind
-      → IsAtValue g (framed atom_word) e (apply (g.present e.store).substitution t) (Some (below r)) s
+      → open_list s.list ≡ Goal (Run t) mark ∷ behind
+      → IsAtValue g (framed atom_word) e (apply (g.present e.store).substitution t) (Some (below r)) (opened s)
   at_goal e r there s ahead t mark behind is = record {
     term = t;
     mark = mark;
@@ -174,13 +177,13 @@ module _ {S W M : Type 0} (g : Ghosts S W M) (atom_word : ℕ → W) where
       → IsArithmeticThere e.lists.frames.items r → e.steps ≡ 0
       → ((v : World) → IsWorld g (framed atom_word) e v → IsEngine g (framed atom_word) new (idle v))
       → new.now ≡ now.Idle → Stays g e new
-      → Moved g (framed atom_word) (λ t. Unit {0}) e (Ok (move.Pauses pause.Budget)) new
+      → Moved g (framed atom_word) (λ t. ⊥) e (Ok (move.Pauses pause.Budget)) new
   none_moved e new r doing there none idles rests stays =
       moved_pauses g (framed atom_word)
       (λ s h. (let ahead = code_ahead g atom_word e h.own r doing h.engine in
       let goal = goal_comes atom_word e.lists r there (whole_chain atom_word e.lists ahead.chain) in
-      value_spends g (framed atom_word) e h.own s (apply (g.present e.store).substitution goal.0) (Some (below r))
-      h.same (at_goal e r there h.own ahead goal.0 goal.1 goal.2 goal.3) new none idles rests))
+      value_spends g (framed atom_word) e (opened h.own) s (apply (g.present e.store).substitution goal.0)
+      (Some (below r)) (opened_alike h.own s h.same) (at_goal e r there h.own ahead goal.0 goal.1 goal.2 goal.3) new none idles rests))
       tt (λ s h. tt) tt stays
 
   -- ---- the goal took its step
@@ -193,8 +196,9 @@ module _ {S W M : Type 0} (g : Ghosts S W M) (atom_word : ℕ → W) where
       → ((nodes : List (Node W)) (all : List Member)
       → Chain atom_word (g.present e.store) (stack nodes frames words) (Some r) all
       → HasAnswered atom_word (g.present e.store) (g.present store) (stack nodes frames words) r all answer)
-      → ((nodes : List (Node W)) (term : Tree) (mark : ℕ) (behind : List Member) (row : Library)
-      → Chain atom_word (g.present e.store) (stack nodes frames words) (Some r) (Goal (Run term) mark ∷ behind)
+      → ((nodes : List (Node W)) (all : List Member) (term : Tree) (mark : ℕ) (behind : List Member) (row : Library)
+      → Chain atom_word (g.present e.store) (stack nodes frames words) (Some r) all
+      → open_list all ≡ Goal (Run term) mark ∷ behind
       → IsBuiltIn (apply (g.present e.store).substitution term) (built_in.Library row)
       → Takes g e.store store (made_for (library_answer row (apply (g.present e.store).substitution term))))
       → (answer ≡ Err fault.Full → g.full store)
@@ -261,23 +265,29 @@ module _ {S W M : Type 0} (g : Ghosts S W M) (atom_word : ℕ → W) where
         abbrev pub table : Answer
         table = library_answer has_answered.row call
 
-        abbrev pub at_value : IsAtValue g (framed atom_word) e call (Some (below r)) h.own
+        -- the engine's own state, without a conjunction in front
+        abbrev pub own_open : State
+        own_open = opened h.own
+
+        pub same_open : Alike own_open s
+        same_open = opened_alike h.own s h.same
+
+        abbrev pub at_value : IsAtValue g (framed atom_word) e call (Some (below r)) own_open
         at_value =
             at_goal e r c.there h.own ahead has_answered.term has_answered.mark has_answered.behind has_answered.is
 
         cells_taken : Takes g e.store mid.store (reply_cells (answered table))
         cells_taken =
             subst (Takes g e.store mid.store) (sym (answer_counts table))
-            (c.cells has_answered.term has_answered.mark has_answered.behind has_answered.row
-            (subst (λ (ms : List Member). Chain atom_word (g.present e.store) (stack_of e.lists) (Some r) ms)
-            has_answered.is chain) has_answered.of_row)
+            (c.cells h.own.list has_answered.term has_answered.mark has_answered.behind has_answered.row chain
+            has_answered.is has_answered.of_row)
 
         pub took : TookStepAt g (framed atom_word) e mid call (Some (below r)) has_answered.behind
             (built_in.Library has_answered.row)
         took =
             took_step g (framed atom_word) (λ x. as_much (extent_of x)) (λ x k within. within)
             (λ p x j k i ms less list. list_more atom_word p x j k i ms less list)
-            (λ p q x k i ms keeps list. list_words atom_word p q x k i ms keeps list) e mid h.own call (Some (below r))
+            (λ p q x k i ms keeps list. list_words atom_word p q x k i ms keeps list) e mid own_open call (Some (below r))
             (built_in.Library has_answered.row) at_value c.more has_answered.of_row
             (c.same ∙ ap (λ ws. record e
             { store = mid.store; lists = mid.lists; steps = e.steps - 1; words = ws })
@@ -292,7 +302,7 @@ module _ {S W M : Type 0} (g : Ghosts S W M) (atom_word : ℕ → W) where
             → now_cost (λ (x : Next W). first_cost mid.lists.frames.items x) n ≤ cost_at mid.lists (Some (below r)) + 1
             → weight (framed atom_word) (record mid { now = n }) < weight (framed atom_word) e
         falls_on n within =
-            value_falls g (framed atom_word) h.own (next.Code r) c.doing cheaper at_value took n within
+            value_falls g (framed atom_word) own_open (next.Code r) c.doing cheaper at_value took n within
 
         -- what the table's answer says, by what the goal came to
         replies : (x : Result Reply Fault) → answer ≡ x → IsReply (g.present e.store) (g.present mid.store) table x
@@ -313,10 +323,10 @@ module _ {S W M : Type 0} (g : Ghosts S W M) (atom_word : ℕ → W) where
         → IsBehind (framed atom_word) (g.present mid.store) mid.lists (Some (below r)) n ms)
         → now_cost (λ (x : Next W). first_cost mid.lists.frames.items x) n ≤ cost_at mid.lists (Some (below r))
         → IsAwake (phase_of n) → Stays g mid (record mid { now = n })
-        → Moved g (framed atom_word) (λ t. Unit {0}) e (Ok move.Goes) (record mid { now = n })
+        → Moved g (framed atom_word) (λ t. ⊥) e (Ok move.Goes) (record mid { now = n })
     done_moved is n comes less awake stays =
         moved_on g (framed atom_word)
-        (λ s h. value_holds g (framed atom_word) h.own s h.same (at_value c s h) (took c s h) n comes awake
+        (λ s h. value_holds g (framed atom_word) (own_open c s h) s (same_open c s h) (at_value c s h) (took c s h) n comes awake
         (answered (table c s h)) refl
         (went_as (table c s h) (replies c s h (Ok outcome.Done) is)))
         (falls_on c z stands n (omega (arith, less))) (stays_behind c stays)
@@ -324,10 +334,10 @@ module _ {S W M : Type 0} (g : Ghosts S W M) (atom_word : ℕ → W) where
     -- ---- it failed
 
     pub fail_moved : answer ≡ Ok outcome.Fail → Stays g mid (record mid { now = now.Failing })
-        → Moved g (framed atom_word) (λ t. Unit {0}) e (Ok move.Goes) (record mid { now = now.Failing })
+        → Moved g (framed atom_word) (λ t. ⊥) e (Ok move.Goes) (record mid { now = now.Failing })
     fail_moved is stays =
         moved_on g (framed atom_word)
-        (λ s h. value_fails g (framed atom_word) h.own s h.same (at_value c s h) (took c s h) (answered (table c s h))
+        (λ s h. value_fails g (framed atom_word) (own_open c s h) s (same_open c s h) (at_value c s h) (took c s h) (answered (table c s h))
         refl
         (failed_as (table c s h) (replies c s h (Ok outcome.Fail) is)))
         (falls_on c z stands now.Failing (omega arith)) (stays_behind c stays)
@@ -345,9 +355,9 @@ module _ {S W M : Type 0} (g : Ghosts S W M) (atom_word : ℕ → W) where
     raise_moves ball is result new throws s h =
         let raised = raised_as (table c s h) ball (replies c s h (Err (fault.Raise ball)) is) in
         let error = term_of ball.term.value in
-        let on = value_unbound g (framed atom_word) h.own s h.same (at_value c s h) (took c s h) error raised.0
+        let on = value_unbound g (framed atom_word) (own_open c s h) s (same_open c s h) (at_value c s h) (took c s h) error raised.0
         raised.2 in
-        value_raises g (framed atom_word) h.own s h.same (at_value c s h) (took c s h) new error raised.0
+        value_raises g (framed atom_word) (own_open c s h) s (same_open c s h) (at_value c s h) (took c s h) new error raised.0
         (throws.3 _ on) (rw throws.1 tt)
 
     refused_keeps : (s : State) → (h : Represents g (framed atom_word) e s)
@@ -359,17 +369,18 @@ module _ {S W M : Type 0} (g : Ghosts S W M) (atom_word : ℕ → W) where
 
     refused : (s : State) → Represents g (framed atom_word) e s → Refused g (framed atom_word) mid s
     refused s h =
-        value_refused_reply g (framed atom_word) e h.own s (call c s h) (Some (below r)) h.same (at_value c s h) c.more
+        value_refused_reply g (framed atom_word) e (own_open c s h) s (call c s h) (Some (below r)) (same_open c s h)
+        (at_value c s h) c.more
         mid (built_in.Library (has_answered c s h).row) (has_answered c s h).of_row (cells_taken c s h)
         (refused_keeps s h)
 
     pub fault_moved : (f : Fault) → answer ≡ Err f → (result : Result Move StoreFault) → (new : Engine S W M)
         → Throws g (framed atom_word) mid f (Some (below r)) result new → Stays g mid new
-        → Moved g (framed atom_word) (λ t. Unit {0}) e result new
+        → Moved g (framed atom_word) (λ t. ⊥) e result new
     fault_moved (fault.Raise ball) is result new throws stays =
         rw throws.0
         (moved_on g (framed atom_word) (raise_moves ball is result new throws)
-        (value_throws_falls g (framed atom_word) stands.own (next.Code r) c.doing (cheaper c z stands)
+        (value_throws_falls g (framed atom_word) (own_open c z stands) (next.Code r) c.doing (cheaper c z stands)
         (at_value c z stands) (took c z stands) new throws.1 throws.2) (stays_behind c stays))
     fault_moved fault.Full is result new throws stays =
         rw (throws.0, throws.1)
@@ -386,7 +397,7 @@ module _ {S W M : Type 0} (g : Ghosts S W M) (atom_word : ℕ → W) where
         → CameTo g atom_word e (Ok calls.Went) new
     thrown_came f is m new throws stays =
         came_moved g atom_word
-        (subst (λ (x : Move). Moved g (framed atom_word) (λ t. Unit {0}) e (Ok x) new)
+        (subst (λ (x : Move). Moved g (framed atom_word) (λ t. ⊥) e (Ok x) new)
         (thrown_goes g atom_word mid new f (Some (below r)) m throws)
         (fault_moved f is (Ok m) new throws stays))
 

@@ -6,9 +6,10 @@ use Rattle.std.proofs.lemmas.Result.{IfOk-weaker}
 use Rattle.iso_model.specs.Terms.Trees.{Tree}
 use Rattle.iso_model.specs.Search.Engines.{IsAwake}
 use Rattle.iso_model.specs.Search.Runs.{Quiet}
+use Rattle.iso_model.specs.Search.RunLaws.Spans.{ComesBeyond}
 use Rattle.iso_model.specs.Search.Walker.{State, World}
 use Rattle.iso_model.specs.declared.pauses.Pause.TheVariants as pause
-use Rattle.iso_model.proofs.Search.RunLaws.Quiets.{quiet_trans}
+use Rattle.iso_model.proofs.Search.RunLaws.Quiets.{quiet_trans, reaches_behind}
 use Rattle.iso_db.specs.declared.keyed.KeyedView.{KeyedView}
 use Rattle.iso_store_core.specs.declared.shapes.StoreFault.{StoreFault}
 use Rattle.iso_store_core.specs.declared.shapes.StoreFault.TheVariants as fault
@@ -85,13 +86,6 @@ gone_well Fact calls.Went = tt
 gone_well Fact calls.Full = tt
 gone_well Fact calls.Other = tt
 
-gone_full : {Fact : Type 0} (result : Result Next StoreFault) → (result ≡ Ok calls.Full → Fact)
-    → gone result ≡ Ok calls.Full → Fact
-gone_full (Ok calls.Full) room full = room full
-gone_full (Ok calls.Went) room full = absurd (cc)
-gone_full (Ok calls.Other) room full = absurd (cc)
-gone_full (Err e) room full = absurd (cc)
-
 pub gone_error : (result : Result Next StoreFault) → IsErr result → gone result ≡ result
 gone_error (Ok n) is = absurd (false≢true is)
 gone_error (Err e) is = refl
@@ -103,10 +97,13 @@ gone_heap calls.Other full = absurd (cc)
 
 module _ {S W M : Type 0} (g : Ghosts S W M) (atom_word : ℕ → W) (new : Engine S W M) where
   next_on : (n : Next) (asked : Option (NextGoal W (Option Rest))) (s t : State) → Quiet s t
-      → ComesNext g (framed atom_word) (λ limit t. Unit {0}) IsByStep n asked t new
-      → IfOk (gone (Ok n)) (λ m. ComesNext g (framed atom_word) (λ limit t. Unit {0}) IsByStep m asked s new)
+      → ComesNext g (framed atom_word) ComesBeyond IsByStep n asked t new
+      → IfOk (gone (Ok n)) (λ m. ComesNext g (framed atom_word) ComesBeyond IsByStep m asked s new)
   next_on calls.Went asked s t quiet h = (h.0, quiet_trans quiet h.1, h.2, h.3)
-  next_on calls.Full asked s t quiet h = (pauses_behind g (framed atom_word) new s t pause.FramesFull quiet h.0, tt)
+  next_on calls.Full asked s t quiet h = (
+    pauses_behind g (framed atom_word) new s t pause.FramesFull quiet h.0,
+    reaches_behind quiet h.1,
+  )
   next_on calls.Other asked s t quiet h = (t, quiet, awake_stands g (framed atom_word) new.now new t h.1 h.0, h.1)
 
 module _ {S W M : Type 0} (g : Ghosts S W M) (atom_word : ℕ → W) {old new : Engine S W M} where
@@ -119,7 +116,6 @@ module _ {S W M : Type 0} (g : Ghosts S W M) (atom_word : ℕ → W) {old new : 
     next = λ s r. tt;
     stopped = stopped;
     falls = tt;
-    room = λ none. absurd (cc);
     full = full;
     stays = stays;
   }
@@ -147,7 +143,6 @@ module _ {S W M : Type 0} (g : Ghosts S W M) (atom_word : ℕ → W) {old new : 
     next = λ s r. came.next s (shown.stands s r);
     stopped = λ s r. came.stopped s (shown.stands s r);
     falls = IfOk-weaker result _ _ (λ n. falls_before n _ _ _ shown.less) came.falls;
-    room = came.room;
     full = came.full;
     stays = stays_on g shown.stays came.stays;
   }
@@ -162,7 +157,6 @@ module _ {S W M : Type 0} (g : Ghosts S W M) (atom_word : ℕ → W) {old new : 
         next = λ s r. (let on = first.next s r in next_on g atom_word new n asked s on.0 on.1 (came.next on.0 on.2));
         stopped = λ s r. gone_well (Refused g (framed atom_word) new s) n;
         falls = falls_on n _ _ _ first.falls came.falls;
-        room = gone_full (Ok n) came.room;
         full = λ none. gone_heap n none;
         stays = stays_on g first.stays came.stays;
       }
@@ -179,7 +173,6 @@ module _ {S W M : Type 0} (g : Ghosts S W M) (atom_word : ℕ → W) {old new : 
               fits = fits_behind g (g.present new.store) s on.0 on.1 there.fits;
             });
         falls = tt;
-        room = came.room;
         full = came.full;
         stays = stays_on g first.stays came.stays;
       }
@@ -225,7 +218,6 @@ module _ {S W M : Type 0} (g : Ghosts S W M) (atom_word : ℕ → W) {old new : 
             ));
         stopped = λ s r. tt;
         falls = (let less = shown.less in let falls = first.falls in omega (arith, less, falls));
-        room = λ none. absurd (cc);
         full = λ none. absurd (cc);
         stays = stays_on g first.stays shown.stays;
       }

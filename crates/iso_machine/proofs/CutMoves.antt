@@ -1,6 +1,8 @@
 -- The move at a cut in the code of a clause.
 use Rattle.std.proofs.Common.{◌≡◌, ℕ, ◌≤◌, ◌-◌, List, length, drop, Option, Some, Ok, refl, ap, subst, arith}
 use Rattle.iso_model.specs.Search.Engines.{IsAwake}
+use Rattle.iso_model.proofs.Search.RunLaws.Opening.{opened}
+use Rattle.iso_model.proofs.Search.RunLaws.Likeness.{opened_alike}
 use Rattle.iso_model.specs.Search.Walker.{State, Member, cut_back}
 use Rattle.iso_store_core.specs.declared.stores.Store.{Ghosts}
 use Rattle.iso_compile.specs.Control.{height}
@@ -22,7 +24,7 @@ use Rattle.iso_search.specs.Moved.{Moved}
 use Rattle.iso_search.specs.Stays.{Stays}
 use Rattle.iso_search.proofs.AheadLemmas.{engine_place}
 use Rattle.iso_search.proofs.Moves.Member.{behind_falls}
-use Rattle.iso_search.proofs.Moves.Search.{goes}
+use Rattle.iso_search.proofs.Moves.Search.{goes_from, stands_itself}
 use Rattle.iso_search.proofs.MovedLemmas.{moved_on}
 use Rattle.iso_machine.specs.Lists.{IsList, cost_at, extent_of}
 use Rattle.iso_machine.specs.Engines.{Engine, framed}
@@ -66,15 +68,15 @@ module _ {S W M : Type 0} (g : Ghosts S W M) (atom_word : ℕ → W) (e : Engine
         → IsBehind (framed atom_word) (g.present mid.store) mid.lists below n ms)
         → now_cost (λ (x : Next W). first_cost mid.lists.frames.items x) n ≤ cost_at mid.lists below
         → IsAwake (phase_of n) → Stays g e (record mid { now = n }) → (s : State) → Represents g (framed atom_word) e s
-        → Moved g (framed atom_word) (λ t. Unit {0}) e (Ok move.Goes) (record mid { now = n })
+        → Moved g (framed atom_word) (λ t. ⊥) e (Ok move.Goes) (record mid { now = n })
     cut_moved same fewer n comes less awake stays s stands =
         moved_on g (framed atom_word)
         (λ t h.
         (let c = cut_at t h in
-        let v = cut_back (height (there.frame).height c.kept mark) c.behind h.own in
+        let v = cut_back (height (there.frame).height c.kept mark) c.behind (opened h.own) in
         let ahead = cut_ahead t h in
-        goes g (framed atom_word) e (record mid { now = n }) t h v c.is
-        (engine_place g (framed atom_word) mid v below n ahead (comes c.behind ahead.chain)) awake))
+        goes_from g (framed atom_word) (record mid { now = n }) (opened h.own) t v (opened_alike h.own t h.same) c.is
+        (stands_itself g (framed atom_word) (record mid { now = n }) v (engine_place g (framed atom_word) mid v below n ahead (comes c.behind ahead.chain))) awake))
         (let at = at_instruction g atom_word e stands.own r (instruction.Cut mark) there tt
         (code_ahead g atom_word e stands.own r doing stands.engine) in
         let some = (cut_at s stands).some in

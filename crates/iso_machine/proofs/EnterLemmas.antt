@@ -22,7 +22,6 @@ use Rattle.iso_environments.specs.Entered.{HasEnvironment}
 use Rattle.iso_environments.specs.Met.{HasMet}
 use Rattle.iso_instructions.specs.declared.instructions.Code.{Code}
 use Rattle.iso_model.specs.Search.Walker.{Member}
-use Rattle.iso_model.specs.Search.RunLaws.Sameness.{flat}
 use Rattle.iso_compile.specs.Clauses.{body_members}
 use Rattle.iso_compile.specs.Control as compiled
 use Rattle.iso_plain_core.proofs.EnteringLemmas.{adds_none}
@@ -98,7 +97,7 @@ module _ {S W M : Type 0} (atom_word : ℕ → W) {p : Present W} (l : Framed S 
       → IsList atom_word p l (extent_of l) rest (clause_members p words height c ++ ms)
   fact_list none =
       let members : clause_members p words height c ≡ [] =
-      ap (λ (xs : List compiled.Member). flat (placed (word_terms p words) height (λ slot. 0) xs)) none in
+      ap (λ (xs : List compiled.Member). placed (word_terms p words) height (λ slot. 0) xs) none in
       subst (λ (xs : List Member). IsList atom_word p l (extent_of l) rest (xs ++ ms)) (sym members)
       (whole_list atom_word l (chain_pushed atom_word
       (record { nodes = adds_none l.nodes.items; frames = adds_none l.frames.items; words = (words, are) })
@@ -181,7 +180,6 @@ pub comes_at : {S W M : Type 0} (atom_word : ℕ → W) (p q : Present W) (call 
     → ((place : Option Rest) → P place → Begins atom_word p q call c height ms l place) → IfAt e P
     → Comes atom_word p q call c height ms l e
 comes_at atom_word p q call c height ms l entered.Missed P other begins at = absurd (other refl)
-comes_at atom_word p q call c height ms l entered.Full P other begins at = tt
 comes_at atom_word p q call c height ms l entered.Last P other begins at = tt
 comes_at atom_word p q call c height ms l (entered.At place) P other begins at = begins place at
 
@@ -189,6 +187,5 @@ comes_at atom_word p q call c height ms l (entered.At place) P other begins at =
 pub at_weaker : (e : Entered) (P Q : Option Rest → Type 0) → ((place : Option Rest) → P place → Q place) → IfAt e P
     → IfAt e Q
 at_weaker entered.Missed P Q weaker h = tt
-at_weaker entered.Full P Q weaker h = tt
 at_weaker entered.Last P Q weaker h = tt
 at_weaker (entered.At place) P Q weaker h = weaker place h

@@ -11,7 +11,7 @@ use Rattle.iso_model.specs.Search.Additions.{most_variables}
 use Rattle.iso_model.specs.Search.Bodies.{Body, Cut, Run, And, Or, If, Choose, map_body, is_true}
 use Rattle.iso_model.specs.Search.Databases as databases
 use Rattle.iso_model.specs.Search.Walker.{State, World, Alternative, Member, Goal, Fail, tried_clause, before, arguments_size, body_size, clause_size, query_size}
-use Rattle.iso_model.specs.Search.RunLaws.Sameness.{SameList, Same, going, failing, flat}
+use Rattle.iso_model.specs.Search.RunLaws.Sameness.{SameList}
 use Rattle.iso_model.proofs.Search.CallLemmas.{clause_found, clause_keeps, clause_missed}
 use Rattle.iso_prep.specs.Classes.{goals_of}
 use Rattle.iso_store_core.specs.Heads.{new_head}
@@ -37,7 +37,6 @@ use Rattle.iso_search.proofs.Moves.Search.{stands_itself}
 use Rattle.iso_search.proofs.StoppedLemmas.{base_kept}
 use Rattle.iso_search.proofs.UnderLemmas.{same_values, same_under, same_in_front}
 use Rattle.iso_search.proofs.WorldLemmas.{world_on, choices_grown}
-use Rattle.iso_frames.proofs.FlatLemmas.{put_append, flat_before}
 
 -- what follows from what an error leaves is left by it
 pub error_weaker : {T E : Type 0} (result : Result T E) {P Q : Type 0} → (P → Q) → OnErr result P → OnErr result Q
@@ -98,28 +97,6 @@ module _ (own terms u new : Subst) (n : ℕ) (values : (k : ℕ) → k < n → a
       λ i. Choose (first i) (second i) (third i)
 
 -- ---- states
-
--- with other members in front that are the same, once conjunctions are taken apart
-relisted : (o t : State) (b : Body) (mark : ℕ) (ms list : List Member) → o.list ≡ Goal b mark ∷ ms
-    → flat o.list ≡ flat list → Same o t → Same (record o { list = list }) t
-relisted o t b mark ms list is same (going at goals) =
-    going (record {
-      agree = at.agree;
-      next = at.next;
-      beside = record {
-        stack = at.beside.stack;
-        world = at.beside.world;
-        steps = at.beside.steps;
-        query = at.beside.query;
-        built = at.beside.built;
-      };
-    }) (subst (λ (xs : List Member). SameList o.subst t.subst xs (flat t.list)) same goals)
-relisted o t b mark ms list is same (failing xs ys fails others beside) = absurd (cc (is, fails))
-
--- a body that is taken apart before members
-flat_body : (b : Body) (mark : ℕ) (ms : List Member)
-    → flat (Goal b mark ∷ ms) ≡ flat (flat (Goal b mark ∷ []) ++ ms)
-flat_body b mark ms = put_append b mark [] (flat ms) ∙ sym (flat_before (Goal b mark ∷ []) ms)
 
 module _ {S L W M K P C N B O : Type 0} (g : Ghosts S W M) (l : lists.Ghosts L S K P C N B O W M) where
   -- what entering a clause takes, and what its goals are still to take, are within what the state counts for the clause
@@ -238,7 +215,7 @@ module _ {S L W M K P C N B O : Type 0} (g : Ghosts S W M) (l : lists.Ghosts L S
       bound = ap (λ (r : Subst). compose r u) subst_is
 
       -- what is behind has its values
-      behind_values : SameList q.substitution (compose s.subst u) (flat behind) (flat behind)
+      behind_values : SameList q.substitution (compose s.subst u) behind behind
           → SameUnder q.substitution (compose s.subst u) (record there { list = behind })
       behind_values goals =
           let own = subst (λ (r : Subst). HasValues p q r) bound values in
@@ -274,14 +251,14 @@ module _ {S L W M K P C N B O : Type 0} (g : Ghosts S W M) (l : lists.Ghosts L S
 
       -- the clause has no body
       pub fact_engine : (n : Now N P) → IsBehind l q held place n ms → is_true c.body ≡ true → ms ≡ behind
-          → SameList q.substitution (compose s.subst u) (flat behind) (flat behind)
+          → SameList q.substitution (compose s.subst u) behind behind
           → StandsAs g l (onward e store held n) (tried_clause call c mark behind s)
       fact_engine n comes fact same goals =
           let alone = before_fact new_body mark behind (true_renamed s.next c.body ∙ fact) in
           let h = behind_values goals in
           let under : SameUnder q.substitution there.subst there = record {
             goals =
-                subst (λ (xs : List Member). SameList q.substitution there.subst (flat xs) (flat xs)) (sym alone)
+                subst (λ (xs : List Member). SameList q.substitution there.subst xs xs) (sym alone)
                 h.goals;
             shown = h.shown;
             beyond = h.beyond;
@@ -297,17 +274,18 @@ module _ {S L W M K P C N B O : Type 0} (g : Ghosts S W M) (l : lists.Ghosts L S
       -- it has one, of the same value
       pub body_engine : (n : Now N P) → IsBehind l q held place n ms → (b : Body) → is_true c.body ≡ false
           → map_body q.substitution b ≡ map_body (compose s.subst u) new_body
-          → ms ≡ flat (Goal b mark ∷ []) ++ behind
-          → SameList q.substitution (compose s.subst u) (flat behind) (flat behind)
+          → ms ≡ Goal b mark ∷ behind → SameList q.substitution (compose s.subst u) behind behind
           → StandsAs g l (onward e store held n) (tried_clause call c mark behind s)
       body_engine n comes b other value are goals =
           let alone = before_body new_body mark behind (true_renamed s.next c.body ∙ other) in
           let front : State = record there { list = Goal b mark ∷ behind; subst = q.substitution } in
-          let listed = flat_body b mark behind ∙ ap flat (sym are) in
+          let engine : IsEngine g l (onward e store held n) front =
+          subst (λ (xs : List Member). IsEngine g l (onward e store held n) (record own_state { list = xs })) are
+          (own_engine n comes) in
           subst (λ (v : State). StandsAs g l (onward e store held n) v) (sym found)
           (record {
-            own = own_state;
-            engine = own_engine n comes;
-            same = λ itself. relisted front there b mark behind ms refl listed
-                (same_in_front q.substitution there b new_body mark behind alone value (behind_values goals) itself);
+            own = front;
+            engine = engine;
+            same = λ itself. same_in_front q.substitution there b new_body mark behind alone value
+                (behind_values goals) itself;
           })

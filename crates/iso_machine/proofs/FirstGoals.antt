@@ -128,7 +128,6 @@ module _ {S W M : Type 0} (g : Ghosts S W M) (atom_word : ℕ → W) where
         (stands.0, stands.1, is));
     stopped = λ s r. tt;
     falls = omega arith;
-    room = λ none. absurd (cc);
     full = λ none. absurd (cc);
     stays = stays_same g e;
   }

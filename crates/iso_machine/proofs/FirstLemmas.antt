@@ -1,15 +1,19 @@
 -- What comes first of a list, by the frame at its place.
-use Rattle.std.proofs.Common.{◌≡◌, ℕ, ◌≤◌, List, [], ◌∷◌, ◌++◌, Option, Some, None, refl, sym, ap, ◌∙◌, subst, arith}
+use Rattle.std.proofs.Common.{◌≡◌, ◌≢◌, ℕ, ◌≤◌, ◌<◌, ◌+◌, List, [], ◌∷◌, ◌++◌, length, get_or, Option, Some, None, inl, inr, refl, sym, ap, ◌∙◌, subst, arith, length-append}
 use Rattle.std.specs.Global.{Global}
 use Rattle.std.specs.Prelude.{MatchOption}
 use Rattle.std.specs.List.{slice_get}
 use Rattle.std.specs.declared.rc.Rc.{Rc}
+use Rattle.std.proofs.lemmas.Option.{slice_get-get_or}
+use Rattle.iso_model.specs.Search.RunLaws.Sameness.{open_list}
 use Rattle.iso_model.specs.Search.Walker as walker
 use Rattle.iso_store_core.specs.Presents.{Present}
 use Rattle.iso_plain_core.specs.declared.members.Todo.{Todo}
 use Rattle.iso_plain_core.specs.Standing.{IsMember, a_body, a_cut, a_failure, an_end, a_template}
 use Rattle.iso_search_core.specs.Keeping.{Passes, NoLeave}
 use Rattle.iso_instructions.specs.declared.instructions.Code.{Code}
+use Rattle.iso_instructions.specs.declared.instructions.Instruction.{Instruction}
+use Rattle.iso_instructions.specs.declared.instructions.Instruction.TheVariants.{Call, Execute, Is, Compare, Proceed, Cut, GetLevel, TryElse, Jump}
 use Rattle.iso_frames.specs.declared.frames.Rest.{Rest}
 use Rattle.iso_frames.specs.declared.frames.Level.{Level}
 use Rattle.iso_frames.specs.declared.frames.Link.{Link}
@@ -18,13 +22,53 @@ use Rattle.iso_frames.specs.declared.frames.Work.{Work}
 use Rattle.iso_frames.specs.declared.frames.Work.TheVariants.{Clause, Member as OneMember}
 use Rattle.iso_frames.specs.declared.frames.Next.{Next}
 use Rattle.iso_frames.specs.declared.frames.Next.TheVariants as next
-use Rattle.iso_frames.specs.Frames.{Stack, IsBefore, Chain, First, plain_link}
+use Rattle.iso_frames.specs.Frames.{Stack, IsBefore, Chain, First, environment, plain_link}
+use Rattle.iso_frames.specs.Running.{Left, Stops}
 use Rattle.iso_frames.specs.Costs.{cost_of, first_cost, pending_of, first_pending, work_cells}
 use Rattle.iso_frames.proofs.CostLemmas.{there_count}
+use Rattle.iso_frames.proofs.LeftLemmas.{LeftActs, left_acts}
 use Rattle.iso_frames.proofs.ChainLemmas.{AtClause, chain_before, chain_member, chain_clause, chain_moved, chain_ended}
 use Rattle.iso_frames.proofs.CodeCosts.{cost_member, cost_lower, cost_behind, pending_member, pending_clause, pending_behind}
 use Rattle.iso_frames.proofs.PassLemmas.{clause_passes}
 use Rattle.iso_machine.specs.Firsts.{GoesOn, IsFirstOf, ComesTo, catch_of}
+
+-- ---- where code stops at an instruction that does something, some member is left
+
+-- so where it is left with conjunctions in front taken apart
+some_opened : (ms : List walker.Member) (m : walker.Member) (rest : List walker.Member) → open_list ms ≡ m ∷ rest
+    → 0 < length ms
+some_opened [] m rest is = absurd (cc)
+some_opened (first ∷ ms) m rest is = omega arith
+
+module _ {W : Type 0} (atom_word : ℕ → W) (p : Present W) (code : Code) (ws : List W) (called : ℕ) (kept : ℕ → ℕ)
+    (a : ℕ) (ms : List walker.Member) where
+  some_acts : (i : Instruction) → i ≢ Proceed → ((l : ℕ) → i ≢ Jump l)
+      → LeftActs atom_word p code ws called kept a ms i → 0 < length ms
+  some_acts (Call g) ends jumps h = some_opened ms _ h.behind h.are
+  some_acts (Execute g) ends jumps h = some_opened ms _ [] h.are
+  some_acts (Is o js) ends jumps h = some_opened ms _ h.behind h.are
+  some_acts (Compare c js) ends jumps h = some_opened ms _ h.behind h.are
+  some_acts Proceed ends jumps h = absurd (ends refl)
+  some_acts (Cut m) ends jumps h =
+      elim h.are [ inl is ↦ some_opened ms _ h.behind is | inr is ↦ some_opened ms _ h.behind is ]
+  some_acts (GetLevel k) ends jumps h =
+      elim h [ inl c ↦ some_opened ms _ c.behind c.are | inr c ↦ some_opened ms _ c.behind c.are ]
+  some_acts (TryElse l) ends jumps h = some_opened ms _ h.behind h.are
+  some_acts (Jump l) ends jumps h = absurd (jumps l refl)
+
+  some_left : Left atom_word p code ws called kept a ms → Stops code a → 0 < length ms
+  some_left h stops =
+      let i = get_or code.body.items a Proceed in
+      let there = slice_get-get_or code.body.items a Proceed stops.inside in
+      some_acts i (λ is. stops.proceed (there ∙ ap Some is)) (λ l is. stops.jump l (there ∙ ap Some is))
+      (left_acts atom_word p code ws called h stops i there)
+
+-- The list goes on behind the frame, with fewer members.
+pub record IsLonger {W : Type 0} (atom_word : ℕ → W) (p : Present W) (k : Stack W) (f : Frame)
+    (all : List walker.Member) : Type 0 where
+  pub behind : List walker.Member
+  pub chain : Chain atom_word p k f.behind behind
+  pub fewer : 1 + length behind ≤ length all
 
 module _ {W : Type 0} (atom_word : ℕ → W) {p : Present W} {k : Stack W} {r : Rest} (f : Frame)
     (there : slice_get k.frames r.frame ≡ Some f) where
@@ -73,6 +117,41 @@ module _ {W : Type 0} (atom_word : ℕ → W) {p : Present W} {k : Stack W} {r :
   pub list_behind : {all : List walker.Member} → IsFirstOf {W = W} f r f.work None → Chain atom_word p k (Some r) all
       → Chain atom_word p k f.behind all
   list_behind first list = behind_by f.work refl first list
+
+  -- ---- where something comes first of the frame, the list is longer than that behind it
+
+  clause_longer : {all : List walker.Member} (code : Rc Code Global) (level : Option Level) (n : Next W)
+      → (h : AtClause atom_word p k r f code level all) → ComesTo code.value r h.left.body h.left.left n
+      → IsLonger atom_word p k f all
+  clause_longer code level n h comes =
+      let ws = environment k.words f.top code.value in
+      let left : Left atom_word p code.value ws f.height h.kept comes.address h.ms = record {
+        body = h.left.body;
+        left = h.left.left;
+        known = h.left.known;
+        remains = comes.remains;
+        many = h.left.many;
+        hold = h.left.hold;
+        are = h.left.are;
+      } in
+      let some = some_left atom_word p code.value ws f.height h.kept comes.address h.ms left comes.stops in
+      let long = ap length h.is in
+      let both = length-append h.ms h.behind in
+      record { behind = h.behind; chain = h.chain; fewer = omega (arith, some, long, both) }
+
+  longer_by : {all : List walker.Member} (w : Work) (n : Next W) → f.work ≡ w → IsFirstOf f r w (Some n)
+      → Chain atom_word p k (Some r) all → IsLonger atom_word p k f all
+  longer_by (OneMember todo) n is first list =
+      let leads = chain_member atom_word there todo is list in
+      let long = ap length leads.is in
+      record { behind = leads.behind; chain = leads.chain; fewer = omega (arith, long) }
+  longer_by (Clause code level) n is first list =
+      let h = chain_clause atom_word there code level is list in
+      clause_longer code level n h (first h.left.body h.left.left h.left.remains)
+
+  pub list_longer : {all : List walker.Member} (n : Next W) → IsFirstOf f r f.work (Some n)
+      → Chain atom_word p k (Some r) all → IsLonger atom_word p k f all
+  list_longer n first list = longer_by f.work n refl first list
 
 -- ---- costs
 

@@ -33,7 +33,7 @@ use Rattle.iso_machine.specs.declared.framed.Extent.{Extent}
 use Rattle.iso_machine.specs.declared.framed.KeptCall.{KeptCall}
 use Rattle.iso_machine.specs.declared.framed.Framed.{Framed}
 use Rattle.iso_machine.specs.Firsts.{GoesOn, IsFirstOf, catch_of}
-use Rattle.iso_machine.proofs.FirstLemmas.{list_goes, list_comes, list_behind, first_costs, first_pendings, behind_costs, behind_pendings, chain_passes}
+use Rattle.iso_machine.proofs.FirstLemmas.{list_goes, list_comes, list_behind, list_longer, first_costs, first_pendings, behind_costs, behind_pendings, chain_passes}
 use Rattle.iso_machine.specs.Wholes.{ap₃, whole_stack, whole_chain, whole_list}
 use Rattle.iso_machine.specs.Lists.{IsNoMore, IsList, IsFor, IsFirst, KeepsFrames, extent_of, stack_of, arguments_at, cost_at, pending_at}
 use Rattle.iso_environments.specs.Goals.{goal_of}
@@ -259,6 +259,13 @@ module _ {S W M : Type 0} where
       pub frame_behind : IsFirstOf {W = W} f r f.work None → IsList atom_word p l (extent_of l) f.behind ms
       frame_behind first =
           whole_list atom_word l (list_behind atom_word f frame_there first (whole_chain atom_word l list))
+
+      -- where something comes first of it, the list behind it has fewer members
+      pub frame_longer : (n : Next W) → IsFirstOf f r f.work (Some n)
+          → (ns : List Member) × IsList atom_word p l (extent_of l) f.behind ns × (1 + length ns ≤ length ms)
+      frame_longer n first =
+          let on = list_longer atom_word f frame_there n first (whole_chain atom_word l list) in
+          (on.behind, whole_list atom_word l on.chain, on.fewer)
 
       -- no more is to be done where this comes first
       pub frame_cost : (n : Next W) → IsFirstOf f r f.work (Some n) → first_cost l.frames.items n ≤ cost_at l (Some r)

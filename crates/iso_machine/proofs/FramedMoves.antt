@@ -6,7 +6,6 @@ use Rattle.iso_model.specs.Terms.Substitutions.{Subst, apply, compose}
 use Rattle.iso_model.specs.Search.Bodies.{Body, map_body, is_true}
 use Rattle.iso_model.specs.Search.Databases as databases
 use Rattle.iso_model.specs.Search.Walker.{State, Member, Goal, tried_clause, body_size}
-use Rattle.iso_model.specs.Search.RunLaws.Sameness.{flat}
 use Rattle.iso_store_core.specs.Presents.{Present}
 use Rattle.iso_store_core.specs.declared.stores.Store.{Ghosts}
 use Rattle.iso_program.specs.Values.{HasValues}
@@ -27,11 +26,10 @@ use Rattle.iso_machine.specs.Entered.{Begins}
 use Rattle.iso_machine.specs.Lists.{extent_of, list_values, pending_at}
 use Rattle.iso_machine.proofs.EnteredMoves.{Tried, body_engine, body_fitting, fact_engine, onward}
 
--- the members that a body is: none where it is `true`, or all of its goals
+-- the members that a body is: none where it is `true`, or one
 members_if : {W : Type 0} (q : Present W) (words : List W) (height : ℕ) (b : Body) (alone : Bool) → List Member
 members_if q words height b alone =
-    flat (placed (word_terms q words) height (λ slot. 0)
-    (if alone then [] else compiled.Goal b mark.Clause ∷ []))
+    placed (word_terms q words) height (λ slot. 0) (if alone then [] else compiled.Goal b mark.Clause ∷ [])
 
 members_true : {W : Type 0} (q : Present W) (words : List W) (height : ℕ) (c : databases.Clause)
     → is_true c.body ≡ true → clause_members q words height c ≡ []
@@ -40,7 +38,7 @@ members_true q words height c is = ap (members_if q words height c.body) is
 
 members_false : {W : Type 0} (q : Present W) (words : List W) (height : ℕ) (c : databases.Clause)
     → is_true c.body ≡ false
-    → clause_members q words height c ≡ flat (Goal (map_body (word_terms q words) c.body) height ∷ [])
+    → clause_members q words height c ≡ Goal (map_body (word_terms q words) c.body) height ∷ []
 unfolding members_if
 members_false q words height c is = ap (members_if q words height c.body) is
 

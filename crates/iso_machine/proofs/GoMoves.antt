@@ -1,13 +1,16 @@
 -- A goal whose arguments were put is called: the step is taken, frames and words are given up, and its arguments are
 -- kept.
-use Rattle.std.proofs.Common.{◌≡◌, ◌≢◌, ◌≤◌, ◌<◌, ◌+◌, ◌-◌, ℕ, suc, List, ◌∷◌, map, Option, refl, ap, ap₂, sym, ◌∙◌, subst, arith, Vec, Global, Result}
+use Rattle.std.proofs.Common.{◌≡◌, ◌≢◌, ◌≤◌, ◌<◌, ◌+◌, ◌-◌, ℕ, suc, List, ◌∷◌, length, map, Option, refl, ap, ap₂, sym, ◌∙◌, subst, arith, Vec, Global, Result}
 use Rattle.std.specs.List.{All}
 use Rattle.std.specs.Result.{IfOk}
 use Rattle.std.specs.declared.alloc.AllocError.{AllocError}
 use Rattle.std.proofs.lemmas.Result.{IfOk-weaker}
 use Rattle.iso_atoms.specs.Texts.{text_at}
 use Rattle.iso_model.specs.Terms.Trees.{Tree}
+use Rattle.iso_model.specs.Search.Bodies.{Run}
 use Rattle.iso_model.specs.Search.Engines.{IsAwake}
+use Rattle.iso_model.specs.Search.Runs.{here}
+use Rattle.iso_model.specs.Search.RunLaws.Spans.{ComesBeyond}
 use Rattle.iso_model.specs.Search.Walker.{State, tried}
 use Rattle.iso_model.specs.declared.limit.Limit.TheVariants as limit
 use Rattle.iso_model.specs.declared.pauses.Pause.TheVariants as pause
@@ -42,10 +45,11 @@ use Rattle.iso_search.proofs.Moves.Next.{value_called, value_refused}
 use Rattle.iso_search.proofs.Moves.Value.{IsAtValue}
 use Rattle.iso_machine.specs.declared.framed.Framed.{Framed}
 use Rattle.iso_machine.specs.declared.framed.KeptCall.{KeptCall}
-use Rattle.iso_machine.specs.Engines.{Engine, EngineClause, framed}
+use Rattle.iso_machine.specs.Engines.{Engine, EngineClause, IsBeyond, framed}
 use Rattle.iso_machine.specs.GoalCalls.{AtCall, IsToCall, goal_put}
 use Rattle.iso_machine.specs.Lists.{IsFor, KeepsFrames, cost_at, extent_of, list_words, pending_at}
 use Rattle.iso_machine.proofs.AddedLemmas.{IsGrown, ahead_added, ahead_taken, store_grown}
+use Rattle.iso_machine.proofs.BeyondLemmas.{comes_beyond, goal_runs}
 use Rattle.iso_machine.proofs.FrameLemmas.{adds_same, cost_same, list_on, pending_same}
 use Rattle.iso_machine.proofs.GoalTerms.{words_mean}
 
@@ -208,6 +212,7 @@ module _ {S W M : Type 0} (g : Ghosts S W M) (atom_word : ℕ → W) where
                 (user.first ∷ user.others)) (sym names)
                 (subst (λ (d : Db (EngineClause S W M)). AreLeft (own_of (framed atom_word)) (g.names e.store) d clause
                 later (user.first ∷ user.others)) (sym clauses) user.left);
+            enter = user.clauses.enter;
           }
 
       -- ---- what the call comes to
@@ -224,12 +229,21 @@ module _ {S W M : Type 0} (g : Ghosts S W M) (atom_word : ℕ → W) where
           value_refused g (framed atom_word) e at.own s (goal_put g atom_word e name) behind at.same value h.more clause
           later user new was
 
-      -- no choice or frame may be made
-      pub go_full : (new : Engine S W M) → WasRefused g (framed atom_word) new taken tries
+      -- no frame and no choice may come
+      pub go_full : (new : Engine S W M) → new ≡ mid → IsBeyond g atom_word mid behind
           → Moves g (framed atom_word) (move.Pauses pause.FramesFull) s (record new { now = now.Spent limit.Frames })
-      go_full new was =
-          let spent : Engine S W M = record new { now = now.Spent limit.Frames } in
-          ((go_refused spent was).stopped, refl)
+          × ComesBeyond new.limit s
+      go_full new same beyond =
+          let spent : Engine S W M = record mid { now = now.Spent limit.Frames } in
+          let left = refuses_here g (framed atom_word) spent at.own s at.same
+          (remains_ahead g (framed atom_word) mid (record taken { list = (at.at).behind }) behind ahead) in
+          let longer = ap length (at.at).list in
+          let comes = comes_beyond g atom_word mid behind (record taken { list = (at.at).behind }) at.own s s beyond
+          ahead here at.same (goal_runs at.own (Run at.term) at.mark (at.at).behind (at.at).list) (omega (arith, longer))
+          (omega arith) in
+          subst (λ (x : Engine S W M).
+          Moves g (framed atom_word) (move.Pauses pause.FramesFull) s (record x { now = now.Spent limit.Frames })
+          × ComesBeyond x.limit s) (sym same) ((left.stopped, refl), comes)
 
     -- what is left falls
     pub go_falls : (mid new : Engine S W M) → mid.steps ≡ e.steps - 1

@@ -7,7 +7,8 @@ use Rattle.iso_model.specs.Terms.Substitutions.{Subst, apply}
 use Rattle.iso_model.specs.Search.Bodies.{Run}
 use Rattle.iso_model.specs.Search.RunLaws.Sameness.{Same}
 use Rattle.iso_model.specs.Search.Walker.{State, World, Member, Goal}
-use Rattle.iso_model.proofs.Search.RunLaws.Likeness.{alike_on}
+use Rattle.iso_model.proofs.Search.RunLaws.Opening.{opened}
+use Rattle.iso_model.proofs.Search.RunLaws.Likeness.{alike_on, opened_alike}
 use Rattle.iso_db.specs.declared.keyed.KeyedView.{KeyedView}
 use Rattle.iso_store_core.specs.ArgumentWords.{AreArguments}
 use Rattle.iso_store_core.specs.Presents.{Grows, KeepsNumbers, Makes, meaning}
@@ -225,8 +226,8 @@ module _ {S W M : Type 0} (g : Ghosts S W M) (atom_word : ℕ → W) where
                 (let h = puts (r.own).list (at_code e rest doing r) in
                 let ahead = code_ahead g atom_word e r.own rest doing r.engine in
                 record {
-                  own = r.own;
-                  same = r.same;
+                  own = opened r.own;
+                  same = opened_alike r.own s r.same;
                   term = h.term;
                   mark = h.mark;
                   at = record {

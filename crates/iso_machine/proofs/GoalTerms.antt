@@ -13,6 +13,8 @@ use Rattle.iso_model.specs.Terms.Substitutions.{Subst, apply}
 use Rattle.iso_model.specs.Terms.Unification.Applied.{apply_apply}
 use Rattle.iso_model.specs.Search.Bodies.{Run}
 use Rattle.iso_model.specs.Search.Keys.{Key, key, key_of}
+use Rattle.iso_model.specs.Search.RunLaws.Sameness.{open_list}
+use Rattle.iso_model.proofs.Search.RunLaws.Opening.{begins_before}
 use Rattle.iso_model.specs.Search.Walker.{Member, Goal}
 use Rattle.iso_model.proofs.OnTerms.SortLemmas.{count-apply, row_of_arguments}
 use Rattle.iso_store_core.specs.Presents.{Present, Holds, KeepsWords, meaning}
@@ -129,10 +131,11 @@ call_stops code a g (inr there) = record {
 -- the goal that comes first is made of the template
 put_is : {W : Type 0} (atom_word : ℕ → W) {q : Present W} {k : Stack W} {all : List Member} {names : List (List ℕ)}
     {put : Put} {arguments : List W} (h : HasPut atom_word names q k put arguments all)
-    (ms behind front : List Member) (t : Tree) (m : ℕ) → all ≡ ms ++ behind → ms ≡ Goal (Run t) m ∷ front → h.term ≡ t
+    (ms behind front : List Member) (t : Tree) (m : ℕ) → all ≡ ms ++ behind → open_list ms ≡ Goal (Run t) m ∷ front
+    → h.term ≡ t
 put_is atom_word h ms behind front t m is are =
     let same : Goal (Run h.term) h.mark ∷ h.behind ≡ Goal (Run t) m ∷ (front ++ behind) =
-    sym h.is ∙ (is ∙ ap (λ (xs : List Member). xs ++ behind) are) in
+    sym h.is ∙ (ap open_list is ∙ begins_before ms (Goal (Run t) m) front behind are) in
     cc
 
 module _ {W : Type 0} (atom_word : ℕ → W) {p q : Present W} {k : Stack W} {r : Rest} {all : List Member}

@@ -1,13 +1,9 @@
--- Frames of clauses that stand, whose code goes on at any of its addresses; and what the search comes to at a construct
--- whose parts are taken apart.
+-- Frames of clauses that stand, whose code goes on at any of its addresses.
 use Rattle.std.proofs.Common.{◌≡◌, ℕ, ◌≤◌, ◌-◌, ◌+◌, List, [], ◌∷◌, ◌++◌, length, Option, Some, refl, sym, ap, ◌∙◌, subst, arith}
 use Rattle.std.specs.Global.{Global}
 use Rattle.std.specs.List.{slice_get}
 use Rattle.std.specs.declared.rc.Rc.{Rc}
-use Rattle.iso_model.specs.Search.Bodies.{Body}
-use Rattle.iso_model.specs.Search.Walker.{State, Member, Goal, CutTo, AsIs, pushed}
-use Rattle.iso_model.specs.Search.RunLaws.Sameness.{put, flat, SameList, same_alternative, Around, Same, going}
-use Rattle.iso_model.proofs.Search.RunLaws.SameSteps.{list_same}
+use Rattle.iso_model.specs.Search.Walker.{Member}
 use Rattle.iso_store_core.specs.Presents.{Present}
 use Rattle.iso_prep.specs.Trees.{At}
 use Rattle.iso_prep.specs.declared.bodies.Node.{Node}
@@ -25,72 +21,9 @@ use Rattle.iso_frames.specs.Costs.{cost_of, pending_of, cells_from}
 use Rattle.iso_frames.proofs.StackLemmas.{AddsAll, adds_none, adds_agree, top_on}
 use Rattle.iso_frames.proofs.ChainLemmas.{AtClause, chain_place, chain_before, chain_pushed}
 use Rattle.iso_frames.proofs.CodeCosts.{cost_clause, pending_clause, cost_more_frames, pending_more_frames}
-use Rattle.iso_frames.proofs.FlatLemmas.{put_append, flat_before}
 use Rattle.iso_environments.specs.Stacks.{stack}
 use Rattle.iso_environments.specs.Leveled.{IsAtClause, level_at, HasLeveled}
 use Rattle.iso_environments.proofs.LeveledLemmas.{leveled}
-
--- ---- bodies that are taken apart
-
--- a body that is taken apart before a list comes to the same as before it
-pub flat_put : (b : Body) (mark : ℕ) (ms : List Member) → flat (put b mark ms) ≡ put b mark (flat ms)
-flat_put b mark ms =
-    let front : put b mark ms ≡ put b mark [] ++ ms = put_append b mark [] ms in
-    let apart : flat (put b mark [] ++ ms) ≡ put b mark [] ++ flat ms = flat_before (Goal b mark ∷ []) ms in
-    ap flat front ∙ (apart ∙ sym (put_append b mark [] (flat ms)))
-
--- so before two lists
-pub flat_front : (b : Body) (mark : ℕ) (ms behind : List Member)
-    → flat (put b mark ms ++ behind) ≡ flat (Goal b mark ∷ ms ++ behind)
-flat_front b mark ms behind =
-    ap flat (sym (put_append b mark ms behind)) ∙ flat_put b mark (ms ++ behind)
-
--- so for a condition, the cut behind it, and what follows
-pub flat_condition : (b c : Body) (mark n later : ℕ) (ms behind : List Member)
-    → flat (put b mark (CutTo n ∷ put c later ms) ++ behind)
-    ≡ flat (Goal b mark ∷ CutTo n ∷ Goal c later ∷ ms ++ behind)
-flat_condition b c mark n later ms behind =
-    flat_front b mark (CutTo n ∷ put c later ms) behind
-    ∙ ap (λ (xs : List Member). put b mark (CutTo n ∷ xs)) (flat_front c later ms behind)
-
--- states whose lists are the same once conjunctions are taken apart
-pub same_list : (s : State) (ms ns : List Member) → Around s s → flat ms ≡ flat ns
-    → Same (record s { list = ms }) (record s { list = ns })
-same_list s ms ns at same =
-    going
-    (record {
-      agree = at.agree;
-      next = refl;
-      beside = record {
-        stack = at.beside.stack;
-        world = refl;
-        steps = refl;
-        query = omega arith;
-        built = omega arith;
-      };
-    })
-    (subst (λ (xs : List Member). SameList s.subst s.subst (flat ms) xs) same (list_same ms))
-
--- so with an alternative more
-pub same_split : (s : State) (ms ns others more : List Member) → Around s s → flat ms ≡ flat ns
-    → flat others ≡ flat more
-    → Same (record (pushed others AsIs s) { list = ms }) (record (pushed more AsIs s) { list = ns })
-same_split s ms ns others more at same left =
-    going
-    (record {
-      agree = at.agree;
-      next = refl;
-      beside = record {
-        stack = same_alternative at.agree refl (omega arith)
-            (subst (λ (xs : List Member). SameList s.subst s.subst (flat others) xs) left (list_same others)) refl tt tt
-            at.beside.stack;
-        world = refl;
-        steps = refl;
-        query = omega arith;
-        built = omega arith;
-      };
-    })
-    (subst (λ (xs : List Member). SameList s.subst s.subst (flat ms) xs) same (list_same ms))
 
 -- ---- frames of clauses
 

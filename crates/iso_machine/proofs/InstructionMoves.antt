@@ -7,8 +7,9 @@ use Rattle.std.proofs.Math.Nat.{le-max_left, le-max_right}
 use Rattle.iso_model.specs.Search.Bodies.{Cut, Or}
 use Rattle.iso_model.specs.Search.Runs.{Quiet, here}
 use Rattle.iso_model.specs.Search.Walker.{State, Member, Goal, CutTo, AsIs, Goes, pushed, cut_back, step}
-use Rattle.iso_model.specs.Search.RunLaws.Sameness.{put, Same}
-use Rattle.iso_model.proofs.Search.RunLaws.Likeness.{Alike, onward_alike, alike_on}
+use Rattle.iso_model.specs.Search.RunLaws.Sameness.{open_list}
+use Rattle.iso_model.proofs.Search.RunLaws.Opening.{opened, begins_before}
+use Rattle.iso_model.proofs.Search.RunLaws.Likeness.{Alike, onward_alike, opened_alike}
 use Rattle.iso_model.proofs.Search.RunLaws.Quiets.{quiet_trans}
 use Rattle.iso_store_core.specs.declared.stores.Store.{Ghosts}
 use Rattle.iso_compile.specs.Control.{height}
@@ -34,14 +35,14 @@ use Rattle.iso_frames.proofs.CodeCosts.{cells_on, cells_try, cost_two}
 use Rattle.iso_search.specs.EngineStates.{IsAhead, IsEngine, Represents}
 use Rattle.iso_search.proofs.AheadLemmas.{ahead_grown}
 use Rattle.iso_search.proofs.EndLemmas.{next_is}
-use Rattle.iso_search.proofs.SameBodies.{around_own}
 use Rattle.iso_search.proofs.SearchSteps.{step_is}
 use Rattle.iso_machine.specs.declared.framed.Framed.{Framed}
 use Rattle.iso_machine.specs.Lists.{KeepsFrames, cost_at, pending_at, stack_of}
 use Rattle.iso_machine.specs.Engines.{Engine, framed}
 use Rattle.iso_machine.specs.Instructions.{IsInstructionThere, IsStep, Splits, IsSplit, at_address}
 use Rattle.iso_machine.specs.Wholes.{whole_chain, whole_list}
-use Rattle.iso_machine.proofs.InstructionLemmas.{IsFrame, clause_frame, address_list, address_pending, flat_front, same_split}
+use Rattle.iso_machine.proofs.BeyondLemmas.{goal_runs}
+use Rattle.iso_machine.proofs.InstructionLemmas.{IsFrame, clause_frame, address_list, address_pending}
 
 -- ---- the instruction there
 
@@ -139,7 +140,7 @@ module _ {S W M : Type 0} (g : Ghosts S W M) (atom_word : ℕ → W) where
     pub kept : ℕ → ℕ
     pub levels : Levels e.lists.frames.items r.frame level kept
     pub behind : List Member
-    pub is : step s ≡ Goes (cut_back (height f.height kept mark) behind s)
+    pub is : step (opened s) ≡ Goes (cut_back (height f.height kept mark) behind (opened s))
     pub ahead : IsAhead g (framed atom_word) e (record s { list = behind }) (Some (at_address r (r.address - 1)))
     pub some : 0 < r.address
 
@@ -170,11 +171,14 @@ module _ {S W M : Type 0} (g : Ghosts S W M) (atom_word : ℕ → W) where
       }
     where
       steps : (ms behind : List Member) (n : ℕ) (rest : List Member) → s.list ≡ ms ++ behind
-          → (ms ≡ Goal Cut n ∷ rest) ⊎ (ms ≡ CutTo n ∷ rest) → step s ≡ Goes (cut_back n (rest ++ behind) s)
+          → (open_list ms ≡ Goal Cut n ∷ rest) ⊎ (open_list ms ≡ CutTo n ∷ rest)
+          → step (opened s) ≡ Goes (cut_back n (rest ++ behind) (opened s))
       steps ms behind n rest list (inl is) =
-          step_is s (Goal Cut n ∷ rest ++ behind) (list ∙ ap (λ (xs : List Member). xs ++ behind) is)
+          step_is (opened s) (Goal Cut n ∷ rest ++ behind)
+          (ap open_list list ∙ begins_before ms (Goal Cut n) rest behind is)
       steps ms behind n rest list (inr is) =
-          step_is s (CutTo n ∷ rest ++ behind) (list ∙ ap (λ (xs : List Member). xs ++ behind) is)
+          step_is (opened s) (CutTo n ∷ rest ++ behind)
+          (ap open_list list ∙ begins_before ms (CutTo n) rest behind is)
 
   -- ---- a disjunction
 
@@ -198,31 +202,28 @@ module _ {S W M : Type 0} (g : Ghosts S W M) (atom_word : ℕ → W) where
       let left = le-max_left (cells_from code.value below) (cells_from code.value other) in
       let right = le-max_right (cells_from code.value below) (cells_from code.value other) in
       let rest = try.behind ++ at.behind in
-      let list = at.list ∙ ap (λ (xs : List Member). xs ++ at.behind) try.are in
+      let list = ap open_list at.list
+      ∙ begins_before at.ms (Goal (Or try.first try.other) try.mark) try.behind at.behind try.are in
       let v : State = record (pushed (Goal try.other try.mark ∷ rest) AsIs o)
       { list = Goal try.first try.mark ∷ rest } in
-      let goes : step o ≡ Goes v = step_is o (Goal (Or try.first try.other) try.mark ∷ rest) list in
-      let on = onward_alike o v t goes alike in
-      let around = around_own o t (Or try.first try.other) try.mark rest list alike in
-      let ms = put try.first try.mark try.behind ++ at.behind in
-      let others = put try.other try.mark try.behind ++ at.behind in
-      let u : State = record (pushed others AsIs o) { list = ms } in
-      let same : Same u v = same_split o ms (Goal try.first try.mark ∷ rest) others (Goal try.other try.mark ∷ rest)
-      around (flat_front try.first try.mark try.behind at.behind)
-      (flat_front try.other try.mark try.behind at.behind) in
+      let goes : step (opened o) ≡ Goes v =
+      step_is (opened o) (Goal (Or try.first try.other) try.mark ∷ rest) list in
+      let on = onward_alike (opened o) v t goes (opened_alike o t alike) in
       record {
         own = o;
-        list = ms;
-        others = others;
+        list = Goal try.first try.mark ∷ rest;
+        others = Goal try.other try.mark ∷ rest;
         at = on.0;
         quiet = quiet_trans {u = on.0} quiet on.1;
-        same = alike_on u v on.0 same on.2;
-        ahead = subst (λ (n : ℕ). IsAhead g (framed atom_word) e (record o { list = ms }) (Some (at_address r n)))
-            (sym address)
+        same = on.2;
+        runs = goal_runs (record o { list = Goal try.first try.mark ∷ rest }) try.first try.mark rest refl;
+        ahead = subst
+            (λ (n : ℕ). IsAhead g (framed atom_word) e (record o { list = Goal try.first try.mark ∷ rest })
+            (Some (at_address r n))) (sym address)
             (code_on e o r (instruction.TryElse other) f code there.level ahead at below
-            (put try.first try.mark try.behind) try.here (omega (arith, cells, here, left)));
+            (Goal try.first try.mark ∷ try.behind) try.here (omega (arith, cells, here, left)));
         left = code_on e o r (instruction.TryElse other) f code there.level ahead at other
-            (put try.other try.mark try.behind) try.there (omega (arith, cells, here, right));
+            (Goal try.other try.mark ∷ try.behind) try.there (omega (arith, cells, here, right));
       }
 
   -- ---- where the engine runs it

@@ -6,10 +6,13 @@ use Rattle.std.proofs.lemmas.Option.{slice_get_within}
 use Rattle.std.proofs.Math.Nat.{le-max_left, le-max_right}
 use Rattle.iso_model.specs.Search.Bodies.{If, Choose}
 use Rattle.iso_model.specs.Search.Engines.{IsAwake}
-use Rattle.iso_model.specs.Search.Runs.{Quiet}
+use Rattle.iso_model.specs.Search.Runs.{Quiet, here}
 use Rattle.iso_model.specs.Search.Walker.{State, Member, Goal, CutTo, AsIs, Goes, pushed, step}
-use Rattle.iso_model.specs.Search.RunLaws.Sameness.{put, flat, Same}
-use Rattle.iso_model.proofs.Search.RunLaws.Likeness.{Alike, onward_alike, alike_on}
+use Rattle.iso_model.specs.Search.RunLaws.Sameness.{open_list}
+use Rattle.iso_model.specs.Search.RunLaws.Spans.{ComesBeyond}
+use Rattle.iso_model.proofs.Search.RunLaws.Opening.{opened, begins_before}
+use Rattle.iso_model.proofs.Search.RunLaws.AlikeSpans.{Runs}
+use Rattle.iso_model.proofs.Search.RunLaws.Likeness.{Alike, onward_alike, opened_alike}
 use Rattle.iso_store_core.specs.declared.stores.Store.{Ghosts}
 use Rattle.iso_plain_core.specs.Entering.{Adds}
 use Rattle.iso_compile.specs.ControlLaws.{with_level}
@@ -41,16 +44,16 @@ use Rattle.iso_search.proofs.AheadLemmas.{engine_place}
 use Rattle.iso_search.proofs.Moves.Body.{grown_cost}
 use Rattle.iso_search.proofs.Moves.Search.{goes_to, stands_itself}
 use Rattle.iso_search.proofs.MovedLemmas.{moved_on}
-use Rattle.iso_search.proofs.SameBodies.{around_own}
 use Rattle.iso_search.proofs.SearchSteps.{step_is}
 use Rattle.iso_search.proofs.WeightLemmas.{falls_less}
 use Rattle.iso_search.proofs.WorldLemmas.{all_texts}
 use Rattle.iso_machine.specs.declared.framed.Framed.{Framed}
 use Rattle.iso_machine.specs.Lists.{IsList, KeepsFrames, cost_at, extent_of, stack_of}
-use Rattle.iso_machine.specs.Engines.{Engine, framed}
+use Rattle.iso_machine.specs.Engines.{Engine, IsBeyond, framed}
 use Rattle.iso_machine.specs.Instructions.{IsInstructionThere, Splits, IsSplit, at_address}
+use Rattle.iso_machine.proofs.BeyondLemmas.{comes_beyond, goal_runs, open_runs}
 use Rattle.iso_machine.proofs.FrameLemmas.{adds_keeps, adds_same}
-use Rattle.iso_machine.proofs.InstructionLemmas.{IsFrame, address_cost, address_pending, leveled_frame, leveled_left, leveled_cost, leveled_pending, flat_front, flat_condition, same_list, same_split}
+use Rattle.iso_machine.proofs.InstructionLemmas.{IsFrame, address_cost, address_pending, leveled_frame, leveled_left, leveled_cost, leveled_pending}
 use Rattle.iso_machine.proofs.InstructionMoves.{AtInstruction, at_instruction, code_ahead, frame_ahead, try_splits}
 
 -- the instruction there, by the frame's own code
@@ -99,6 +102,23 @@ module _ {S W M : Type 0} (g : Ghosts S W M) (atom_word : ℕ → W) where
         | inl c ↦ (let is = c.is in omega (arith, is))
         | inr c ↦ (let is = c.is in omega (arith, is))
       ]
+
+  -- where no frame and no choice may come, the search comes to a state that spans more
+  pub level_beyond : (e : Engine S W M) (r : Rest) (slot : ℕ) → e.now ≡ now.Running (next.Code r)
+      → IsInstructionThere e.lists.frames.items r (instruction.GetLevel slot) → IsBeyond g atom_word e (Some r)
+      → (s : State) → Represents g (framed atom_word) e s → ComesBeyond e.limit s
+  level_beyond e r slot doing there beyond s stands =
+      let own = stands.own in
+      let ahead = code_ahead g atom_word e own r doing stands.engine in
+      let at = at_instruction g atom_word e own r (instruction.GetLevel slot) there tt ahead in
+      let runs : Runs own = elim at.acts [
+        | inl c ↦ open_runs own (If c.condition c.next) c.mark (c.behind ++ at.behind)
+            (ap open_list at.list ∙ begins_before at.ms (Goal (If c.condition c.next) c.mark) c.behind at.behind c.are)
+        | inr c ↦ open_runs own (Choose c.condition c.next c.other) c.mark (c.behind ++ at.behind)
+            (ap open_list at.list
+            ∙ begins_before at.ms (Goal (Choose c.condition c.next c.other) c.mark) c.behind at.behind c.are)
+      ] in
+      comes_beyond g atom_word e (Some r) own own s s beyond ahead here stands.same runs (omega arith) (omega arith)
 
   -- From this state the search comes, without an event, to one that is alike the engine's own, which goes on there.
   pub record GoesTo (e : Engine S W M) (s : State) (place : Rest) : Type 0 where
@@ -205,20 +225,18 @@ module _ {S W M : Type 0} (g : Ghosts S W M) (atom_word : ℕ → W) where
           → GoesTo mid s made
       commit_goes c =
           let rest = c.behind ++ at.behind in
-          let list = at.list ∙ ap (λ (xs : List Member). xs ++ at.behind) c.are in
+          let list = ap open_list at.list
+          ∙ begins_before at.ms (Goal (If c.condition c.next) c.mark) c.behind at.behind c.are in
           let n = length own.stack in
           let v : State = record own { list = Goal c.condition n ∷ CutTo n ∷ Goal c.next c.mark ∷ rest } in
-          let goes : step own ≡ Goes v = step_is own (Goal (If c.condition c.next) c.mark ∷ rest) list in
-          let on = onward_alike own v s goes stands.same in
-          let around = around_own own s (If c.condition c.next) c.mark rest list stands.same in
-          let first = put c.condition height (CutTo height ∷ put c.next c.mark c.behind) in
-          let ms = first ++ at.behind in
-          let u : State = record own { list = ms } in
-          let apart = subst
-          (λ (m : ℕ). flat ms ≡ flat (Goal c.condition m ∷ CutTo m ∷ Goal c.next c.mark ∷ rest)) height_is
-          (flat_condition c.condition c.next height height c.mark c.behind at.behind) in
-          let same : Same u v =
-          same_list own ms (Goal c.condition n ∷ CutTo n ∷ Goal c.next c.mark ∷ rest) around apart in
+          let goes : step (opened own) ≡ Goes v =
+          step_is (opened own) (Goal (If c.condition c.next) c.mark ∷ rest) list in
+          let on = onward_alike (opened own) v s goes (opened_alike own s stands.same) in
+          let first = Goal c.condition height ∷ CutTo height ∷ Goal c.next c.mark ∷ c.behind in
+          let u : State = record own { list = first ++ at.behind } in
+          let same : Alike u on.0 =
+          subst (λ (m : ℕ). Alike (record own { list = Goal c.condition m ∷ CutTo m ∷ Goal c.next c.mark ∷ rest }) on.0)
+          (sym height_is) on.2 in
           let address : made.address ≡ c.below = (let a = has.address in let b = c.is in omega (arith, a, b)) in
           let item = subst (λ (m : ℕ). slice_get code.body.items m ≡ Some (instruction.GetLevel slot)) c.is
           there.item in
@@ -228,7 +246,7 @@ module _ {S W M : Type 0} (g : Ghosts S W M) (atom_word : ℕ → W) where
             own = u;
             at = on.0;
             quiet = on.1;
-            same = alike_on u v on.0 same on.2;
+            same = same;
             ahead = subst (λ (m : ℕ). IsAhead g (framed atom_word) mid u (Some (at_address made m))) (sym address)
                 (made_ahead c.below first (c.here height) (omega (arith, cells, old)));
           }
@@ -260,23 +278,21 @@ module _ {S W M : Type 0} (g : Ghosts S W M) (atom_word : ℕ → W) where
           choose_splits : Splits g atom_word mid s (at_address made (made.address - 1)) (at_address made c.alternative)
           choose_splits =
               let rest = c.behind ++ at.behind in
-              let list = at.list ∙ ap (λ (xs : List Member). xs ++ at.behind) c.are in
+              let list = ap open_list at.list
+              ∙ begins_before at.ms (Goal (Choose c.condition c.next c.other) c.mark) c.behind at.behind c.are in
               let n = length own.stack in
               let ns : List Member = Goal c.condition (suc n) ∷ CutTo n ∷ Goal c.next c.mark ∷ rest in
-              let v : State = record (pushed (Goal c.other c.mark ∷ rest) AsIs own) { list = ns } in
-              let goes : step own ≡ Goes v =
-              step_is own (Goal (Choose c.condition c.next c.other) c.mark ∷ rest) list in
-              let on = onward_alike own v s goes stands.same in
-              let around = around_own own s (Choose c.condition c.next c.other) c.mark rest list stands.same in
-              let first = put c.condition (suc height) (CutTo height ∷ put c.next c.mark c.behind) in
+              let others = Goal c.other c.mark ∷ rest in
+              let v : State = record (pushed others AsIs own) { list = ns } in
+              let goes : step (opened own) ≡ Goes v =
+              step_is (opened own) (Goal (Choose c.condition c.next c.other) c.mark ∷ rest) list in
+              let on = onward_alike (opened own) v s goes (opened_alike own s stands.same) in
+              let first = Goal c.condition (suc height) ∷ CutTo height ∷ Goal c.next c.mark ∷ c.behind in
               let ms = first ++ at.behind in
-              let others = put c.other c.mark c.behind ++ at.behind in
-              let u : State = record (pushed others AsIs own) { list = ms } in
-              let apart = subst
-              (λ (m : ℕ). flat ms ≡ flat (Goal c.condition (suc m) ∷ CutTo m ∷ Goal c.next c.mark ∷ rest)) height_is
-              (flat_condition c.condition c.next (suc height) height c.mark c.behind at.behind) in
-              let same : Same u v = same_split own ms ns others (Goal c.other c.mark ∷ rest) around apart
-              (flat_front c.other c.mark c.behind at.behind) in
+              let same : Alike (record (pushed others AsIs own) { list = ms }) on.0 =
+              subst
+              (λ (m : ℕ). Alike (record (pushed others AsIs own)
+              { list = Goal c.condition (suc m) ∷ CutTo m ∷ Goal c.next c.mark ∷ rest }) on.0) (sym height_is) on.2 in
               let address : made.address - 1 ≡ c.below = (let a = choose_address in omega (arith, a)) in
               let item = subst (λ (m : ℕ). slice_get code.body.items m ≡ Some (instruction.GetLevel slot)) c.is
               there.item in
@@ -291,12 +307,15 @@ module _ {S W M : Type 0} (g : Ghosts S W M) (atom_word : ℕ → W) where
                 others = others;
                 at = on.0;
                 quiet = on.1;
-                same = alike_on u v on.0 same on.2;
+                same = same;
+                runs =
+                    goal_runs (record own { list = ms }) c.condition (suc height)
+                    (CutTo height ∷ Goal c.next c.mark ∷ rest) refl;
                 ahead = subst
                     (λ (m : ℕ). IsAhead g (framed atom_word) mid (record own { list = ms }) (Some (at_address made m)))
                     (sym address)
                     (made_ahead c.below first (c.here height) (omega (arith, cells, tries, old, one)));
-                left = made_ahead c.alternative (put c.other c.mark c.behind) (c.there height)
+                left = made_ahead c.alternative (Goal c.other c.mark ∷ c.behind) (c.there height)
                     (omega (arith, cells, tries, old, two));
               }
 
@@ -387,7 +406,7 @@ module _ {S W M : Type 0} (g : Ghosts S W M) (atom_word : ℕ → W) where
         → IsBehind (framed atom_word) (g.present e.store) more (Some made) n ms)
         → now_cost (λ (x : Next W). first_cost fs.items x) n ≤ cost_at more (Some made) → IsAwake (phase_of n)
         → (s : State) → Represents g (framed atom_word) e s
-        → Moved g (framed atom_word) (λ t. Unit {0}) e (Ok move.Goes) (record mid { now = n })
+        → Moved g (framed atom_word) (ComesBeyond e.limit) e (Ok move.Goes) (record mid { now = n })
     level_moved none n comes fewer awake s stands =
         moved_on g (framed atom_word)
         (λ t h.

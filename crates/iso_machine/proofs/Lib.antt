@@ -1,5 +1,6 @@
 pub mod AddedLemmas
 pub mod ArithmeticMoves
+pub mod BeyondLemmas
 pub mod BodyCells
 pub mod CameLemmas
 pub mod CutMoves
@@ -24,6 +25,7 @@ pub mod LastFrames
 pub mod LastMoves
 pub mod LevelMoves
 pub mod PlaceLemmas
+pub mod RoomLemmas
 pub mod SplitMoves
 pub mod StepLemmas
 pub mod TryMoves

@@ -3,6 +3,7 @@ use Rattle.std.proofs.Common.{◌≡◌, ℕ, ◌≤◌, ◌<◌, List, length, 
 use Rattle.std.specs.Prelude.{IsErr}
 use Rattle.iso_atoms.specs.Texts.{KeepsTexts}
 use Rattle.iso_model.specs.Search.Engines.{IsAwake}
+use Rattle.iso_model.specs.Search.RunLaws.Spans.{ComesBeyond}
 use Rattle.iso_model.specs.Search.Walker.{State, Member, AsIs, pushed}
 use Rattle.iso_model.specs.declared.limit.Limit.TheVariants as limit
 use Rattle.iso_model.specs.declared.pauses.Pause.TheVariants as pause
@@ -33,8 +34,9 @@ use Rattle.iso_search.proofs.WeightLemmas.{falls_less, gained_cost}
 use Rattle.iso_search.proofs.WorldLemmas.{all_texts}
 use Rattle.iso_machine.specs.declared.framed.Framed.{Framed}
 use Rattle.iso_machine.specs.Lists.{IsList, as_much, cost_at, extent_of, pending_at}
-use Rattle.iso_machine.specs.Engines.{Engine, framed}
+use Rattle.iso_machine.specs.Engines.{Engine, IsBeyond, framed}
 use Rattle.iso_machine.specs.Instructions.{Splits, IsSplit}
+use Rattle.iso_machine.proofs.BeyondLemmas.{comes_beyond}
 
 module _ {S W M : Type 0} (g : Ghosts S W M) (atom_word : ℕ → W) where
   -- A choice came, at which the alternative is left.
@@ -82,11 +84,12 @@ module _ {S W M : Type 0} (g : Ghosts S W M) (atom_word : ℕ → W) where
     mid = record old { lists = more }
 
     abbrev Moves_to : Result Move StoreFault → Engine S W M → Type 0
-    Moves_to result new = Moved g (framed atom_word) (λ s. Unit {0}) old result new
+    Moves_to result new = Moved g (framed atom_word) (ComesBeyond old.limit) old result new
 
-    -- no choice may be made any more
-    full_moved : Moves_to (Ok (move.Pauses pause.FramesFull)) (record mid { now = now.Spent limit.Frames })
-    full_moved = record {
+    -- no frame and no choice may come any more
+    full_moved : IsBeyond g atom_word mid (Some on)
+        → Moves_to (Ok (move.Pauses pause.FramesFull)) (record mid { now = now.Spent limit.Frames })
+    full_moved beyond = record {
       moves = λ s r. (
         stops_here g (framed atom_word) (record mid { now = now.Spent limit.Frames }) r.own s r.same
             (keeps_lists g (framed atom_word) old more r.own.world r.own.stack
@@ -95,7 +98,11 @@ module _ {S W M : Type 0} (g : Ghosts S W M) (atom_word : ℕ → W) where
       );
       stopped = λ s r. tt;
       falls = tt;
-      frames = λ s r. tt;
+      frames = λ s r.
+          (let one = h.splits s r in
+          comes_beyond g atom_word mid (Some on) (record one.own { list = one.list })
+          (record (pushed one.others AsIs one.own) { list = one.list }) s one.at beyond one.ahead one.quiet one.same
+          one.runs (omega arith) (omega arith));
       met = tt;
       stays = record {
         limit = refl;
@@ -160,12 +167,13 @@ module _ {S W M : Type 0} (g : Ghosts S W M) (atom_word : ℕ → W) where
     apart : IsSplit g atom_word old (record old { lists = new.lists }) on other
     apart = subst (λ (e : Engine S W M). IsSplit g atom_word old e on other) h.is h
 
-    pub split_full : Moved g (framed atom_word) (λ s. Unit {0}) old (Ok (move.Pauses pause.FramesFull))
+    pub split_full : IsBeyond g atom_word new (Some on)
+        → Moved g (framed atom_word) (ComesBeyond old.limit) old (Ok (move.Pauses pause.FramesFull))
         (record new { now = now.Spent limit.Frames })
     split_full =
         subst
-        (λ (e : Engine S W M).
-        Moved g (framed atom_word) (λ s. Unit {0}) old (Ok (move.Pauses pause.FramesFull))
+        (λ (e : Engine S W M). IsBeyond g atom_word e (Some on)
+        → Moved g (framed atom_word) (ComesBeyond old.limit) old (Ok (move.Pauses pause.FramesFull))
         (record e { now = now.Spent limit.Frames })) (sym h.is) (full_moved old new.lists on other apart)
 
     -- the list that it goes on with, where a choice came
@@ -189,7 +197,7 @@ module _ {S W M : Type 0} (g : Ghosts S W M) (atom_word : ℕ → W) where
         → ((ms : List Member) → IsList atom_word (g.present store) e.lists (extent_of e.lists) (Some on) ms
         → IsBehind (framed atom_word) (g.present store) e.lists (Some on) n ms)
         → now_cost (λ (x : Next W). first_cost e.lists.frames.items x) n ≤ cost_at e.lists (Some on)
-        → IsAwake (phase_of n) → Moved g (framed atom_word) (λ s. Unit {0}) old (Ok move.Goes)
+        → IsAwake (phase_of n) → Moved g (framed atom_word) (ComesBeyond old.limit) old (Ok move.Goes)
         (record e { store = store; choices = choices; now = n })
 
     pub split_on : (s : State) → Represents g (framed atom_word) old s → GoesOn new
@@ -204,7 +212,7 @@ module _ {S W M : Type 0} (g : Ghosts S W M) (atom_word : ℕ → W) where
         → KeepsMarks (g.stands e.store) (g.stands store) → KeepsTexts (g.names e.store) (g.names store)
         → choices.items ≡ e.choices.items → (result : Result Move StoreFault) → IsErr result
         → ResultMet g result (record e { store = store; choices = choices })
-        → Moved g (framed atom_word) (λ s. Unit {0}) old result (record e { store = store; choices = choices })
+        → Moved g (framed atom_word) (ComesBeyond old.limit) old result (record e { store = store; choices = choices })
 
     pub split_refused : IsRefused new
     split_refused =

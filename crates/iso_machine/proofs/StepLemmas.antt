@@ -12,7 +12,6 @@ use Rattle.iso_instructions.specs.declared.instructions.Goal as loaded
 use Rattle.iso_instructions.specs.declared.instructions.Instruction.{Instruction}
 use Rattle.iso_instructions.specs.declared.instructions.Instruction.TheVariants.{Call, Execute, Is, Compare, Proceed, Cut, GetLevel, TryElse, Jump}
 use Rattle.iso_frames.specs.declared.frames.Rest.{Rest}
-use Rattle.iso_frames.specs.declared.frames.Level.{Level}
 use Rattle.iso_frames.specs.declared.frames.Frame.{Frame}
 use Rattle.iso_frames.specs.declared.frames.Work.TheVariants.{Clause}
 use Rattle.iso_frames.specs.declared.frames.Next.TheVariants as next

@@ -27,32 +27,31 @@ full_met g new fault.NoMemory met is = absurd (cc)
 module _ {S W M : Type 0} (g : Ghosts S W M) (atom_word : ℕ → W) where
   module _ {old new : Engine S W M} where
     -- a move that goes on is a call that went on, and the other way round
-    pub came_moved : Moved g (framed atom_word) (λ t. Unit {0}) old (Ok move.Goes) new
+    pub came_moved : {Over : State → Type 0} → Moved g (framed atom_word) Over old (Ok move.Goes) new
         → CameTo g atom_word old (Ok calls.Went) new
     came_moved moved asked = record {
       next = λ s r. moved.moves s r;
       stopped = λ s r. tt;
       falls = moved.falls;
-      room = λ none. absurd (cc);
       full = λ none. absurd (cc);
       stays = moved.stays;
     }
 
-    pub moved_came : CameTo g atom_word old (Ok calls.Went) new
-        → Moved g (framed atom_word) (λ t. Unit {0}) old (Ok move.Goes) new
+    pub moved_came : {Over : State → Type 0} → CameTo g atom_word old (Ok calls.Went) new
+        → Moved g (framed atom_word) Over old (Ok move.Goes) new
     moved_came came =
         let c = came None in
         moved_on g (framed atom_word) (λ s r. c.next s r) c.falls c.stays
 
     -- so a refused one
-    pub came_refused : (e : StoreFault) → Moved g (framed atom_word) (λ t. Unit {0}) old (Err e) new
+    pub came_refused : {Over : State → Type 0} (e : StoreFault) → Moved g (framed atom_word) Over old (Err e) new
         → CameTo g atom_word old (Err e) new
     came_refused e moved =
         came_error g atom_word e (λ s r. moved.stopped s r) (full_met g new e moved.met) moved.stays
 
-    pub moved_refused : (result : Result Move StoreFault) (e : StoreFault) → IsErr result
+    pub moved_refused : {Over : State → Type 0} (result : Result Move StoreFault) (e : StoreFault) → IsErr result
         → IsErrAnd result (λ x. x ≡ e) → CameTo g atom_word old (Err e) new
-        → Moved g (framed atom_word) (λ t. Unit {0}) old result new
+        → Moved g (framed atom_word) Over old result new
     moved_refused result e is that came =
         let c = came None in
         moved_not g (framed atom_word) result is (λ s r. c.stopped s r)

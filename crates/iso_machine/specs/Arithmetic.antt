@@ -5,6 +5,7 @@ use Rattle.iso_model.specs.Terms.Substitutions.{apply}
 use Rattle.iso_model.specs.Search.Bodies.{Run}
 use Rattle.iso_model.specs.Search.Library.{library_answer}
 use Rattle.iso_model.specs.Search.Walker.{Member, Goal}
+use Rattle.iso_model.specs.Search.RunLaws.Sameness.{open_list}
 use Rattle.iso_model.specs.declared.kinds.Library.{Library}
 use Rattle.iso_model.specs.declared.built_ins.BuiltIn.TheVariants as built_in
 use Rattle.iso_store_core.specs.Retaining.{RetainsAll, Takes}
@@ -34,8 +35,9 @@ pub record HasComputed {S W M : Type 0} (g : Ghosts S W M) (atom_word : ℕ → 
   pub retains : RetainsAll g e.store mid.store
   pub answers : (all : List Member) → Chain atom_word (g.present e.store) (stack_of e.lists) (Some r) all
       → HasAnswered atom_word (g.present e.store) (g.present mid.store) (stack_of e.lists) r all answer
-  pub cells : (term : Tree) (mark : ℕ) (behind : List Member) (row : Library)
-      → Chain atom_word (g.present e.store) (stack_of e.lists) (Some r) (Goal (Run term) mark ∷ behind)
+  pub cells : (all : List Member) (term : Tree) (mark : ℕ) (behind : List Member) (row : Library)
+      → Chain atom_word (g.present e.store) (stack_of e.lists) (Some r) all
+      → open_list all ≡ Goal (Run term) mark ∷ behind
       → IsBuiltIn (apply (g.present e.store).substitution term) (built_in.Library row)
       → Takes g e.store mid.store (made_for (library_answer row (apply (g.present e.store).substitution term)))
   pub full : answer ≡ Err fault.Full → g.full mid.store

@@ -1,7 +1,12 @@
 -- The search over frames.
-use Rattle.std.specs.Prelude.{ℕ, ◌+◌, ◌≤◌, length, Option}
+use Rattle.std.specs.Prelude.{ℕ, ◌+◌, ◌*◌, ◌<◌, List, length, Option}
 use Rattle.std.specs.Global.{Global}
 use Rattle.std.specs.declared.rc.Rc.{Rc}
+use Rattle.iso_model.specs.Terms.Trees.{Tree}
+use Rattle.iso_model.specs.Search.Clashes.{may_enter}
+use Rattle.iso_model.specs.Search.RunLaws.Spans.{stack_span}
+use Rattle.iso_model.specs.Search.Walker.{Alternative, Member}
+use Rattle.iso_store_core.specs.declared.stores.Store as stores
 use Rattle.iso_clause_code.specs.Keeping.{KeepsCode}
 use Rattle.iso_clause_code.proofs.KeptLemmas.{code_stays}
 use Rattle.iso_instructions.specs.declared.instructions.Code.{Code}
@@ -14,6 +19,7 @@ use Rattle.iso_frames.specs.Costs.{first_cost, first_pending}
 use Rattle.iso_search_core.specs.declared.lists.Lists.{Ghosts}
 use Rattle.iso_search_core.specs.declared.own.OwnOf.{OwnOf}
 use Rattle.iso_search.specs.declared.search.Search.{Search}
+use Rattle.iso_search.specs.EngineStates.{HasChoices}
 use Rattle.iso_machine.specs.declared.framed.Extent.{Extent}
 use Rattle.iso_machine.specs.declared.framed.KeptCall.{KeptCall}
 use Rattle.iso_machine.specs.declared.framed.Framed.{Framed}
@@ -52,6 +58,11 @@ EngineClause S W M = Clause (OwnOf S (Framed S W M) W M Extent (Option Rest) Kep
 abbrev pub Engine : Type 0 → Type 0 → Type 0 → Type 0
 Engine S W M = Search S (Framed S W M) W M Extent (Option Rest) KeptCall (Next W) ℕ Kept
 
--- No frame and no choice may be made any more: together they are as many as there may be.
-abbrev pub HasNoRoom : {S W M : Type 0} → Engine S W M → Type 0
-HasNoRoom e = e.limit ≤ length e.choices.items + length e.lists.frames.items
+module _ {S W M : Type 0} (g : stores.Ghosts S W M) (atom_word : ℕ → W) where
+  -- A state with the engine's alternatives, whose list has the members from this place on and maybe more, spans more
+  -- than there may be frames and choices.
+  abbrev pub IsBeyond : Engine S W M → Option Rest → Type 0
+  IsBeyond e place =
+      (query : Tree) (ks : List Alternative) (ms : List Member) → HasChoices g (framed atom_word) e query ks
+      → IsList atom_word (g.present e.store) e.lists (extent_of e.lists) place ms
+      → e.limit < 3 * (1 + (length ms + stack_span may_enter ks))

@@ -19,7 +19,6 @@ use Rattle.iso_machine.specs.Lists.{IsList, extent_of}
 -- a fact of the place from which the list begins, where there is one
 abbrev pub IfAt : Entered → (Option Rest → Type 0) → Type 0
 IfAt entered.Missed P = Unit {0}
-IfAt entered.Full P = Unit {0}
 IfAt entered.Last P = Unit {0}
 IfAt (entered.At place) P = P place
 
@@ -41,6 +40,5 @@ module _ {S W M : Type 0} (atom_word : ℕ → W) where
   abbrev pub Comes : Present W → Present W → Tree → databases.Clause → ℕ → List Member → Framed S W M → Entered
       → Type 0
   Comes p q call c height ms l entered.Missed = NeverEqual call (new_head p c.head)
-  Comes p q call c height ms l entered.Full = Unit {0}
   Comes p q call c height ms l entered.Last = Unit {0}
   Comes p q call c height ms l (entered.At place) = Begins p q call c height ms l place

@@ -5,6 +5,7 @@ use Rattle.std.specs.List.{slice_get}
 use Rattle.std.specs.declared.rc.Rc.{Rc}
 use Rattle.iso_model.specs.Search.Runs.{Quiet}
 use Rattle.iso_model.specs.Search.Walker.{State, Member, AsIs, pushed}
+use Rattle.iso_model.proofs.Search.RunLaws.AlikeSpans.{Runs}
 use Rattle.iso_model.proofs.Search.RunLaws.Likeness.{Alike}
 use Rattle.iso_store_core.specs.declared.stores.Store.{Ghosts}
 use Rattle.iso_instructions.specs.declared.instructions.Code.{Code}
@@ -51,7 +52,7 @@ at_address r a = record { frame = r.frame; address = a }
 
 module _ {S W M : Type 0} (g : Ghosts S W M) (atom_word : ℕ → W) where
   -- From this state the search comes, without an event, to one that is alike the engine's own: there it goes on at the
-  -- first place, and an alternative is left at the second.
+  -- first place, with a goal, and an alternative is left at the second.
   pub record Splits (e : Engine S W M) (s : State) (on other : Rest) : Type 0 where
     pub own : State
     pub list : List Member
@@ -59,6 +60,7 @@ module _ {S W M : Type 0} (g : Ghosts S W M) (atom_word : ℕ → W) where
     pub at : State
     pub quiet : Quiet s at
     pub same : Alike (record (pushed others AsIs own) { list = list }) at
+    pub runs : Runs (record own { list = list })
     pub ahead : IsAhead g (framed atom_word) e (record own { list = list }) (Some on)
     pub left : IsAhead g (framed atom_word) e (record own { list = others }) (Some other)
 

@@ -5,7 +5,7 @@ use Rattle.std.proofs.Common.{le_refl}
 use Rattle.iso_model.specs.Terms.Trees.{Tree, Name}
 use Rattle.iso_model.specs.Terms.Substitutions.{Subst}
 use Rattle.iso_model.specs.Search.Bodies.{Body}
-use Rattle.iso_model.specs.Search.RunLaws.Sameness.{SameList, flat}
+use Rattle.iso_model.specs.Search.RunLaws.Sameness.{SameList}
 use Rattle.iso_model.specs.Search.Walker.{Member}
 use Rattle.iso_store_core.specs.Presents.{Present, Holds, KeepsWords, meaning}
 use Rattle.iso_program.specs.Values.{HasValues}
@@ -106,7 +106,7 @@ module _ {S W M : Type 0} where
         less.words list
 
     pub list_values : (p q : Present W) (u : Subst) (l : Framed S W M) (k : Extent) (i : Option Rest) (ms : List Member)
-        → HasValues p q u → IsList p l k i ms → SameList q.substitution u (flat ms) (flat ms)
+        → HasValues p q u → IsList p l k i ms → SameList q.substitution u ms ms
     list_values p q u l k i ms values list = chain_values values atom_word list
 
   pub body_words : (p q : Present W) (l : Framed S W M) (i : ℕ) (b : Body)

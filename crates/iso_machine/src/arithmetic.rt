@@ -29,7 +29,7 @@ pub(crate) fn run_arithmetic<S: Cells + Drop>(
     requires now { search.old.now ≡ now.Running (next.Code rest) }
     requires there { IsArithmeticThere search.old.lists.frames.items rest }
     requires stands { (s : State) × Represents S.Store (framed S.atom_word) search.old s }
-    ensures { Moved S.Store (framed S.atom_word) (λ s. Unit {0}) search.old result search.new }
+    ensures { Moved S.Store (framed S.atom_word) (λ s. ⊥) search.old result search.new }
 {
     if search.steps == 0 {
         search.clear();

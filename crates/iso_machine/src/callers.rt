@@ -1,17 +1,17 @@
 //! How the machine calls what comes first of a list, where it is a goal (7.7.7), and how it tries clauses again.
 ghost use Rattle.std.specs.Prelude.{◌≡◌, ◌<◌, None, Ok, Err, IfOk, OnErr, Option, MatchBool, length};
+ghost use Rattle.iso_model.specs.Search.RunLaws.Spans.{ComesBeyond};
 ghost use Rattle.iso_model.specs.Search.Walker.{State};
 ghost use Rattle.iso_search_core.specs.declared.nows.Now.TheVariants as now;
 ghost use Rattle.iso_frames.specs.declared.frames.Next.TheVariants as next;
 ghost use Rattle.iso_environments.specs.Leveled.{IsAtClause};
 ghost use Rattle.iso_environments.specs.Putting.{IsCallThere};
-ghost use Rattle.iso_search.specs.declared.calls.Next.TheVariants as calls;
 ghost use Rattle.iso_search.specs.EngineStates.{Represents, Refused, weight};
 ghost use Rattle.iso_search.specs.Nexts.{ComesNext, FallsNext, WentOrFull};
 ghost use Rattle.iso_search.specs.Retrying.{TriesNext};
 ghost use Rattle.iso_search.specs.Stays.{Stays};
 ghost use Rattle.iso_machine.specs.Came.{Came};
-ghost use Rattle.iso_machine.specs.Engines.{HasNoRoom, framed};
+ghost use Rattle.iso_machine.specs.Engines.{framed};
 ghost use Rattle.iso_machine.specs.Steps.{IsOtherThere};
 
 use super::arithmetic::compute;
@@ -23,13 +23,11 @@ use super::goals::{call_goal, call_word};
 use iso_cells::Cells;
 use iso_frames::{Frame, Link, Next as First, Rest, Work};
 use iso_instructions::Instruction;
-use iso_model::Limit;
 use iso_plain_core::bodies::Node;
 use iso_plain_core::members::Todo;
 use iso_search::calls::{Next, NextGoal};
 use iso_search::retries::Retry;
 use iso_search::search::Search;
-use iso_search_core::nows::Now;
 use iso_store_core::{Store, StoreFault};
 
 /// Calls the goal of the instruction there; or does its cut, or its arithmetic where a step is left. Any other is left
@@ -99,8 +97,8 @@ pub(crate) fn call_first<S: Cells + Drop>(
     }
 }
 
-/// Goes back to the newest choice, and enters the clause that it tries next (7.7.8): it is entered, or no frame may be
-/// made any more. The errors: the store is full, or memory was refused.
+/// Goes back to the newest choice, and enters the clause that it tries next (7.7.8). The errors: the store is full, or
+/// memory was refused.
 #[inline(always)]
 pub(crate) fn try_next<S: Cells + Drop>(
     search: &mut Search<S, Framed<S>>,
@@ -110,9 +108,7 @@ pub(crate) fn try_next<S: Cells + Drop>(
     requires stands { (s : State) × Represents S.Store (framed S.atom_word) search.old s }
     requires tries { TriesNext search.old retry }
     ensures next { (s : State) → Represents S.Store (framed S.atom_word) search.old s
-        → IfOk result (λ n. ComesNext S.Store (framed S.atom_word) (λ limit s. Unit {0}) (λ l first. ⊥) n None s
-        search.new) }
-    ensures no_room { result ≡ Ok calls.Full → HasNoRoom search.new }
+        → IfOk result (λ n. ComesNext S.Store (framed S.atom_word) ComesBeyond (λ l first. ⊥) n None s search.new) }
     ensures went { IfOk result WentOrFull }
     ensures stopped { (s : State) → Represents S.Store (framed S.atom_word) search.old s
         → OnErr result (Refused S.Store (framed S.atom_word) search.new s) }
@@ -125,10 +121,7 @@ pub(crate) fn try_next<S: Cells + Drop>(
     let below = search.leave_choice(newest.mark);
     match enter_clause(search, retry.clause, retry.call, newest.rest, below, false)? {
         Gone::Went => Ok(Next::Went),
-        Gone::Full => {
-            search.now = Now::Spent(Limit::Frames);
-            Ok(Next::Full)
-        }
+        Gone::Full => unreachable!(),
         Gone::Last => unreachable!(),
     }
 }

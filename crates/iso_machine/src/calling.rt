@@ -1,6 +1,6 @@
 //! The moves at a goal of a procedure: its clauses are entered, and a choice keeps those behind (7.7.7, 7.7.10).
-ghost use Rattle.std.specs.Prelude.{◌≡◌, ◌<◌, ◌≤◌, ◌+◌, ◌-◌, ◌^◌, ◌↔◌, ℕ, List, ◌∷◌, Ok, Err, Option, Some, IfOk, IsTrue};
-ghost use Rattle.std.specs.Prelude.{OnOk, OnErr, length, map, true, false};
+ghost use Rattle.std.specs.Prelude.{◌≡◌, ◌≢◌, ◌<◌, ◌≤◌, ◌+◌, ◌-◌, ◌^◌, ℕ, List, ◌∷◌, Ok, Err, Option, Some, IfOk, OnOk, OnErr};
+ghost use Rattle.std.specs.Prelude.{length, map, true, false};
 ghost use Rattle.std.specs.List.{All, slice_get};
 ghost use Rattle.iso_model.specs.Terms.Trees.{Name, Tree};
 ghost use Rattle.iso_model.specs.Search.Databases as databases;
@@ -17,13 +17,14 @@ ghost use Rattle.iso_search.specs.Stays.{Stays};
 ghost use Rattle.iso_frames.specs.declared.frames.Rest.{Rest};
 ghost use Rattle.iso_machine.specs.declared.framed.Extent.{Extent};
 ghost use Rattle.iso_machine.specs.declared.framed.KeptCall.{KeptCall};
-ghost use Rattle.iso_machine.specs.Engines.{HasNoRoom, framed};
+ghost use Rattle.iso_machine.specs.Engines.{IsBeyond, framed};
 ghost use Rattle.iso_machine.specs.LastCalls.{GoesLast};
 ghost use Rattle.iso_environments.specs.Goals.{goal_of};
 ghost use Rattle.iso_machine.specs.Lists.{IsFor, KeepsFrames, cost_at, extent_of};
 
-use super::entering::{Entered, enter};
+use super::entering::{Entered, enter, makes_frame};
 use super::framed::{Framed, KeptCall};
+use super::room::has_room;
 use iso_atoms::Atom;
 use iso_cells::Cells;
 use iso_db::{ClauseId, KeyedView};
@@ -41,7 +42,7 @@ use std::alloc::AllocError;
 pub(crate) enum Gone {
     /// The engine went on.
     Went,
-    /// No frame and no choice may be made any more.
+    /// No frame and no choice may come any more: the clause wasn't entered.
     Full,
     /// The clause was entered, whose body is one goal of a procedure: it has no frame, and its environment is the last
     /// of the words.
@@ -100,25 +101,19 @@ pub(crate) fn keep_arguments<S: Cells>(
     })
 }
 
-/// Whether one more frame or choice may be made: together they are fewer than the limit.
-pub(crate) fn has_room<S: Cells + Drop>(search: &Search<S, Framed<S>>) -> bool
-    ensures room { IsTrue result
-        ↔ (length search.entry.now.choices.items + length search.entry.now.lists.frames.items
-        < search.entry.now.limit) }
-    ensures few { IsTrue result → length search.entry.now.lists.frames.items < 2 ^ 32 }
-{
-    search.choices.len() + search.lists.frames.len() < search.limit as usize
-}
-
-/// Keeps the call's later clauses, which the view gives, as a choice where there are any (7.7.8); false where no choice
-/// may be made any more. The error is that memory was refused.
+/// Keeps the call's later clauses, which the view gives, as a choice where there are any (7.7.8), and one more may come
+/// then: true. The error is that memory was refused.
 fn push_later<S: Cells + Drop>(
     search: &mut Search<S, Framed<S>>,
     later: &mut KeyedView,
     call: KeptCall,
     rest: Option<Rest>,
 ) -> Result<bool, AllocError>
-    requires { (first : ℕ) × (s : State) × (goal : Tree) × (c : databases.Clause) × (cs : List databases.Clause)
+    requires room { (first : ℕ) (s : State) (goal : Tree) (c : databases.Clause) (cs : List databases.Clause)
+        (behind : List Member) → Calls S.Store (framed S.atom_word) search.old
+        (record { clause = first; later = later.old; call = call }) rest s goal c cs behind
+        → 0 < length cs → length search.old.choices.items < search.old.limit }
+    requires calls { (first : ℕ) × (s : State) × (goal : Tree) × (c : databases.Clause) × (cs : List databases.Clause)
         × (behind : List Member) × Calls S.Store (framed S.atom_word) search.old
         (record { clause = first; later = later.old; call = call }) rest s goal c cs behind }
     ensures calls { (first : ℕ) (s : State) (goal : Tree) (c : databases.Clause) (cs : List databases.Clause)
@@ -131,8 +126,7 @@ fn push_later<S: Cells + Drop>(
         (behind : List Member) → Calls S.Store (framed S.atom_word) search.old
         (record { clause = first; later = later.old; call = call }) rest s goal c cs behind
         → OnErr result (Remains S.Store (framed S.atom_word) search.new s) }
-    ensures refused { result ≡ Ok false → search.new ≡ search.old }
-    ensures no_room { result ≡ Ok false → HasNoRoom search.new }
+    ensures room { result ≢ Ok false }
     ensures costs { result ≡ Ok true → kept_cost (framed S.atom_word) search.new
         ≤ kept_cost (framed S.atom_word) search.old + left_cost most (cost_at search.old.lists rest) }
     ensures same { search.new ≡ record search.old { store = search.new.store; choices = search.new.choices } }
@@ -140,9 +134,6 @@ fn push_later<S: Cells + Drop>(
 {
     if !has_left(&search.db, later) {
         return Ok(true);
-    }
-    if !has_room(search) {
-        return Ok(false);
     }
     let Some(clause) = next_left(&search.db, later) else {
         unreachable!();
@@ -153,6 +144,14 @@ fn push_later<S: Cells + Drop>(
         call,
     });
     search.push_choice(left, rest)
+}
+
+/// Whether a clause may have no frame: where it is said to be the last, and frames are few.
+fn may_go_last<S: Cells + Drop>(search: &Search<S, Framed<S>>, last: bool) -> bool
+    ensures last { result ≡ true → last ≡ true }
+    ensures few { result ≡ true → length search.entry.now.lists.frames.items < 2 ^ 32 }
+{
+    last && search.lists.frames.len() < search.limit as usize
 }
 
 /// Enters the clause for the call, before the list from this place on, with this cut mark; where its head doesn't
@@ -173,10 +172,6 @@ pub(crate) fn enter_clause<S: Cells + Drop>(
         (behind : List Member) (later : KeyedView) → Calls S.Store (framed S.atom_word) search.old
         (record { clause = clause; later = later; call = call }) rest s goal c cs behind
         → result ≡ Ok Gone.Went → StandsAs S.Store (framed S.atom_word) search.new (tried_clause goal c mark behind s) }
-    ensures full { (s : State) (goal : Tree) (c : databases.Clause) (cs : List databases.Clause)
-        (behind : List Member) (later : KeyedView) → Calls S.Store (framed S.atom_word) search.old
-        (record { clause = clause; later = later; call = call }) rest s goal c cs behind
-        → result ≡ Ok Gone.Full → Remains S.Store (framed S.atom_word) search.new (tried_clause goal c mark behind s) }
     ensures kept { (s : State) (goal : Tree) (c : databases.Clause) (cs : List databases.Clause)
         (behind : List Member) (later : KeyedView) → Calls S.Store (framed S.atom_word) search.old
         (record { clause = clause; later = later; call = call }) rest s goal c cs behind
@@ -188,7 +183,7 @@ pub(crate) fn enter_clause<S: Cells + Drop>(
         goal c cs behind → StandsAs S.Store (framed S.atom_word) e (tried_clause goal c mark behind s))
         × (cost (framed S.atom_word) e
         ≤ kept_cost (framed S.atom_word) search.old + body_cost most (cost_at search.old.lists rest))) }
-    ensures no_room { result ≡ Ok Gone.Full → HasNoRoom search.new }
+    ensures entered { result ≢ Ok Gone.Full }
     ensures steps { search.new.steps ≡ search.old.steps }
     ensures awake { result ≡ Ok Gone.Went → IsAwake (phase_of search.new.now) }
     ensures heap { result ≡ Err StoreFault.Full → S.full search.new.store }
@@ -196,7 +191,7 @@ pub(crate) fn enter_clause<S: Cells + Drop>(
         ≤ kept_cost (framed S.atom_word) search.old + body_cost most (cost_at search.old.lists rest) }
     ensures stays { Stays S.Store search.old search.new }
 {
-    let room = has_room(search);
+    let last = may_go_last(search, last);
     let entered = search.db.clause(clause);
     match enter(
         &mut search.store,
@@ -205,20 +200,45 @@ pub(crate) fn enter_clause<S: Cells + Drop>(
         call,
         rest,
         mark,
-        room,
         last,
     )? {
         Entered::Missed => search.now = Now::Failing,
-        Entered::Full => return Ok(Gone::Full),
         Entered::Last => return Ok(Gone::Last),
         Entered::At(place) => search.now = search.coming(place),
     }
     Ok(Gone::Went)
 }
 
-/// Calls a procedure: this clause is entered, those behind it, which the view gives, are one choice (7.7.7). It makes
-/// no frame where it is said to be the last and the clause's body is one goal of a procedure. The errors: the store is
-/// full, or memory was refused.
+/// Whether a choice or a frame is to come for the call, of which this clause comes first and then those that the view
+/// gives, and none may come any more.
+fn lacks_room<S: Cells + Drop>(
+    search: &Search<S, Framed<S>>,
+    clause: ClauseId,
+    later: &KeyedView,
+    rest: Option<Rest>,
+    last: bool,
+) -> bool
+    requires { (s : State) × (goal : Tree) × (c : databases.Clause) × (cs : List databases.Clause)
+        × (behind : List Member) × (call : KeptCall) × Calls S.Store (framed S.atom_word) search.now
+        (record { clause = clause; later = later.now; call = call }) rest s goal c cs behind }
+    ensures beyond { result ≡ true → IsBeyond S.Store S.atom_word search.entry.now rest }
+    ensures room { (first : ℕ) (s : State) (goal : Tree) (c : databases.Clause) (cs : List databases.Clause)
+        (behind : List Member) (call : KeptCall) → Calls S.Store (framed S.atom_word) search.entry.now
+        (record { clause = first; later = later.now; call = call }) rest s goal c cs behind
+        → result ≡ false → 0 < length cs → length search.entry.now.choices.items < search.entry.now.limit }
+{
+    if has_room(search, rest) {
+        return false;
+    }
+    if has_left(&search.db, later) {
+        return true;
+    }
+    makes_frame(search.db.clause(clause).own.kept.as_ref(), last)
+}
+
+/// Calls a procedure, where the choice and the frame may come that it makes: this clause is entered, those behind it,
+/// which the view gives, are one choice (7.7.7). It makes no frame where it is said to be the last and the clause's body is one goal of
+/// a procedure. The errors: the store is full, or memory was refused.
 pub(crate) fn call<S: Cells + Drop>(
     search: &mut Search<S, Framed<S>>,
     clause: ClauseId,
@@ -234,11 +254,8 @@ pub(crate) fn call<S: Cells + Drop>(
         (behind : List Member) → Calls S.Store (framed S.atom_word) search.old
         (record { clause = clause; later = later.old; call = call }) rest s goal c cs behind
         → result ≡ Ok Gone.Went → StandsAs S.Store (framed S.atom_word) search.new (tried goal (c ∷ cs) behind s) }
-    ensures full { (s : State) (goal : Tree) (c : databases.Clause) (cs : List databases.Clause)
-        (behind : List Member) → Calls S.Store (framed S.atom_word) search.old
-        (record { clause = clause; later = later.old; call = call }) rest s goal c cs behind
-        → result ≡ Ok Gone.Full
-        → WasRefused S.Store (framed S.atom_word) search.new s (tried goal (c ∷ cs) behind s) }
+    ensures full { result ≡ Ok Gone.Full → search.new ≡ search.old }
+    ensures beyond { result ≡ Ok Gone.Full → IsBeyond S.Store S.atom_word search.old rest }
     ensures kept { (s : State) (goal : Tree) (c : databases.Clause) (cs : List databases.Clause)
         (behind : List Member) → Calls S.Store (framed S.atom_word) search.old
         (record { clause = clause; later = later.old; call = call }) rest s goal c cs behind
@@ -250,7 +267,6 @@ pub(crate) fn call<S: Cells + Drop>(
         rest s goal c cs behind → StandsAs S.Store (framed S.atom_word) e (tried goal (c ∷ cs) behind s))
         × (cost (framed S.atom_word) e ≤ kept_cost (framed S.atom_word) search.old
         + left_cost most (cost_at search.old.lists rest) + body_cost most (cost_at search.old.lists rest))) }
-    ensures no_room { result ≡ Ok Gone.Full → HasNoRoom search.new }
     ensures awake { result ≡ Ok Gone.Went → IsAwake (phase_of search.new.now) }
     ensures heap { result ≡ Err StoreFault.Full → S.full search.new.store }
     ensures steps { search.new.steps ≡ search.old.steps }
@@ -259,9 +275,12 @@ pub(crate) fn call<S: Cells + Drop>(
         ≤ kept_cost (framed S.atom_word) search.old + left_cost most (cost_at search.old.lists rest)
         + body_cost most (cost_at search.old.lists rest) }
 {
+    if lacks_room(search, clause, later, rest, last) {
+        return Ok(Gone::Full);
+    }
     let mark = search.choices.len();
     if !push_later(search, later, call, rest)? {
-        return Ok(Gone::Full);
+        unreachable!();
     }
     enter_clause(search, clause, call, rest, mark, last)
 }

@@ -1,5 +1,6 @@
 //! Instructions that call no goal: cuts, and alternatives within a clause (7.8.4 to 7.8.8).
 ghost use Rattle.std.specs.Prelude.{◌≡◌, ◌<◌, ◌-◌, ◌+◌, ℕ, Option, Some, Ok, MatchOption, length, true};
+ghost use Rattle.iso_model.specs.Search.RunLaws.Spans.{ComesBeyond};
 ghost use Rattle.iso_model.specs.Search.Walker.{State};
 ghost use Rattle.iso_compile.specs.Control.{height};
 ghost use Rattle.iso_instructions.specs.declared.instructions.Instruction.TheVariants as instruction;
@@ -12,8 +13,8 @@ ghost use Rattle.iso_search.specs.Moved.{Moved};
 ghost use Rattle.iso_machine.specs.Engines.{framed};
 ghost use Rattle.iso_machine.specs.Instructions.{IsInstructionThere, IsStepThere, IsSplit, CutsAs, at_address};
 
-use super::calling::has_room;
 use super::framed::Framed;
+use super::room::has_room;
 use iso_cells::Cells;
 use iso_compile::Mark;
 use iso_environments::push_level;
@@ -79,7 +80,7 @@ pub(crate) fn run_instruction<S: Cells + Drop>(
     requires now { search.old.now ≡ now.Running (next.Code rest) }
     requires there { IsStepThere search.old.lists.frames.items rest }
     requires stands { (s : State) × Represents S.Store (framed S.atom_word) search.old s }
-    ensures { Moved S.Store (framed S.atom_word) (λ s. Unit {0}) search.old result search.new }
+    ensures { Moved S.Store (framed S.atom_word) (ComesBeyond search.old.limit) search.old result search.new }
 {
     let frame = &search.lists.frames[rest.frame];
     let Work::Clause(code, _) = &frame.work else {
@@ -101,7 +102,7 @@ pub(crate) fn cut_back<S: Cells + Drop>(search: &mut Search<S, Framed<S>>, rest:
     requires now { search.old.now ≡ now.Running (next.Code rest) }
     requires there { IsInstructionThere search.old.lists.frames.items rest (instruction.Cut mark) }
     requires stands { (s : State) × Represents S.Store (framed S.atom_word) search.old s }
-    ensures moved { Moved S.Store (framed S.atom_word) (λ s. Unit {0}) search.old (Ok Move.Goes) search.new }
+    ensures moved { Moved S.Store (framed S.atom_word) (λ s. ⊥) search.old (Ok Move.Goes) search.new }
     ensures steps { search.new.steps ≡ search.old.steps }
 {
     let height = height_at(search.lists.frames.as_slice(), rest, mark);
@@ -119,7 +120,7 @@ fn try_else<S: Cells + Drop>(
     requires now { search.old.now ≡ now.Running (next.Code rest) }
     requires there { IsInstructionThere search.old.lists.frames.items rest (instruction.TryElse other) }
     requires stands { (s : State) × Represents S.Store (framed S.atom_word) search.old s }
-    ensures { Moved S.Store (framed S.atom_word) (λ s. Unit {0}) search.old result search.new }
+    ensures { Moved S.Store (framed S.atom_word) (ComesBeyond search.old.limit) search.old result search.new }
 {
     split(search, rest, other)
 }
@@ -135,9 +136,9 @@ fn get_level<S: Cells + Drop>(
     requires now { search.old.now ≡ now.Running (next.Code rest) }
     requires there { IsInstructionThere search.old.lists.frames.items rest (instruction.GetLevel slot) }
     requires stands { (s : State) × Represents S.Store (framed S.atom_word) search.old s }
-    ensures { Moved S.Store (framed S.atom_word) (λ s. Unit {0}) search.old result search.new }
+    ensures { Moved S.Store (framed S.atom_word) (ComesBeyond search.old.limit) search.old result search.new }
 {
-    if !has_room(search) {
+    if !has_room(search, Some(rest)) {
         return Ok(search.full_frames());
     }
     let height = search.choices.len();
@@ -164,9 +165,10 @@ fn split<S: Cells + Drop>(
         × IsSplit S.Store S.atom_word old search.old (at_address rest (rest.address - 1)) (at_address rest other) }
     ensures { (old : _) (s : State) → Represents S.Store (framed S.atom_word) old s
         → IsSplit S.Store S.atom_word old search.old (at_address rest (rest.address - 1)) (at_address rest other)
-        → Moved S.Store (framed S.atom_word) (λ s. Unit {0}) old result search.new }
+        → Moved S.Store (framed S.atom_word) (ComesBeyond old.limit) old result search.new }
 {
-    if !has_room(search) {
+    let on = at(rest, rest.address - 1);
+    if !has_room(search, on) {
         return Ok(search.full_frames());
     }
     let kept = search.lists.kept();
@@ -177,6 +179,6 @@ fn split<S: Cells + Drop>(
         at(rest, other),
         Left::AsIs,
     )?;
-    search.now = search.coming(at(rest, rest.address - 1));
+    search.now = search.coming(on);
     Ok(Move::Goes)
 }

@@ -1,6 +1,6 @@
 //! A clause is entered for a call that is kept, over the store and the lists, with no search.
 ghost use Rattle.std.specs.Prelude.{◌≡◌, ◌≢◌, ◌≤◌, ◌<◌, ◌+◌, ◌-◌, ◌*◌, ◌++◌, ◌^◌, ℕ, List, Some, Err, IfOk, Vec, length};
-ghost use Rattle.std.specs.Prelude.{true, false};
+ghost use Rattle.std.specs.Prelude.{true, false, ◌⊎◌};
 ghost use Rattle.iso_atoms.specs.Texts.{text_at};
 ghost use Rattle.iso_model.specs.Terms.Trees.{Tree};
 ghost use Rattle.iso_model.specs.Search.Databases as databases;
@@ -17,7 +17,7 @@ ghost use Rattle.iso_clause_code.specs.Keeping.{KeepsCode};
 ghost use Rattle.iso_frames.specs.Frames.{Chain};
 ghost use Rattle.iso_frames.specs.Costs.{cells_from};
 ghost use Rattle.iso_environments.specs.Stacks.{stack};
-ghost use Rattle.iso_environments.specs.Entered.{HasEnvironment, clause_members};
+ghost use Rattle.iso_environments.specs.Entered.{HasEnvironment, clause_members, ends_alone};
 ghost use Rattle.iso_machine.specs.Engines.{framed};
 ghost use Rattle.std.specs.Global.{Global};
 ghost use Rattle.iso_frames.specs.declared.frames.Frame.{Frame};
@@ -42,8 +42,6 @@ use std::rc::Rc;
 pub(crate) enum Entered {
     /// Its head and the call don't unify.
     Missed,
-    /// They do, and no frame may be made any more.
-    Full,
     /// The clause was entered: the list begins at this place.
     At(Option<Rest>),
     /// The clause was entered, whose body is one goal of a procedure: it has no frame, and its environment is the last
@@ -62,6 +60,20 @@ fn is_one_call(code: &Code) -> bool
         Instruction::Execute(_) => true,
         _ => false,
     }
+}
+
+/// Whether a clause with this code has a frame when it is entered: it is no fact's, and not that of one goal of a
+/// procedure where it is said to be the last.
+pub(crate) fn makes_frame(code: &Code, last: bool) -> bool
+    ensures { result ≡ false → (ends_alone code.now.body.items ≡ true) ⊎ ((last ≡ true) × CallsAlone code.now) }
+{
+    if is_fact(code) {
+        return false;
+    }
+    if last {
+        return !is_one_call(code);
+    }
+    true
 }
 
 /// The name of a head, and how many arguments it has.
@@ -94,14 +106,13 @@ fn is_called<S: Store>(store: &S, head: &Pattern, call: KeptCall) -> bool
 }
 
 /// Where the list begins behind the head of a clause that was entered with this cut mark, before the list from `rest`
-/// on: at a frame of its own where its body is a goal. Its environment is the last of the words; `room` says whether a
-/// frame may be made. The error is that memory was refused.
+/// on: at a frame of its own where its body is a goal, unless it is said to be the last and its body is one goal of a
+/// procedure. Its environment is the last of the words. The error is that memory was refused.
 fn begin<S: Cells>(
     lists: &mut Framed<S>,
     code: &Rc<Code>,
     rest: Option<Rest>,
     mark: usize,
-    room: bool,
     last: bool,
 ) -> Result<Entered, AllocError>
     requires { 0 < length code.now.value.body.items }
@@ -119,15 +130,10 @@ fn begin<S: Cells>(
     ensures frames { Adds lists.old.frames.items lists.new.frames.items }
     ensures same { lists.new ≡ record lists.old { frames = lists.new.frames } }
     ensures met { result ≢ Ok Entered.Missed }
-    ensures full { result ≡ Ok Entered.Full → (room ≡ false) × (lists.new ≡ lists.old) }
-    ensures last { result ≡ Ok Entered.Last → (last ≡ true) × (room ≡ true) × (lists.new ≡ lists.old)
-        × CallsAlone code.now.value }
+    ensures last { result ≡ Ok Entered.Last → (last ≡ true) × (lists.new ≡ lists.old) × CallsAlone code.now.value }
 {
     if is_fact(code.as_ref()) {
         return Ok(Entered::At(rest));
-    }
-    if !room {
-        return Ok(Entered::Full);
     }
     if last && is_one_call(code.as_ref()) {
         return Ok(Entered::Last);
@@ -136,9 +142,9 @@ fn begin<S: Cells>(
     Ok(Entered::At(Some(place)))
 }
 
-/// Enters the clause for the call, before the list from `rest` on, with this cut mark (7.7.10). `room` says whether a
-/// frame may be made. The caller keeps the next number below 2^63. The errors: the store is full, or memory was
-/// refused.
+/// Enters the clause for the call, before the list from `rest` on, with this cut mark (7.7.10): without a frame where it
+/// is said to be the last and its body is one goal of a procedure. The caller keeps the next number below 2^63. The
+/// errors: the store is full, or memory was refused.
 pub(crate) fn enter<S: Cells>(
     store: &mut S,
     lists: &mut Framed<S>,
@@ -146,7 +152,6 @@ pub(crate) fn enter<S: Cells>(
     call: KeptCall,
     rest: Option<Rest>,
     mark: usize,
-    room: bool,
     last: bool,
 ) -> Result<Entered, StoreFault>
     requires { (c : databases.Clause) × (goal : Tree) × (ms : List Member)
@@ -167,9 +172,8 @@ pub(crate) fn enter<S: Cells>(
     ensures cells { (c : databases.Clause) → IsClause (own_of (framed S.atom_word)) (S.names store.old) clause.now c
         → CountsCells S.Store → Grows (S.present store.old) (S.present store.new)
         (c.variables + arguments_size c.head) c.variables }
-    ensures no_room { result ≡ Ok Entered.Full → (room ≡ false) × (lists.new.frames ≡ lists.old.frames) }
-    ensures alone { result ≡ Ok Entered.Last → (last ≡ true) × (room ≡ true)
-        × (lists.new.frames ≡ lists.old.frames) × CallsAlone clause.now.own.kept.value }
+    ensures alone { result ≡ Ok Entered.Last → (last ≡ true) × (lists.new.frames ≡ lists.old.frames)
+        × CallsAlone clause.now.own.kept.value }
     ensures last { (fs : Vec Frame Global) (c : databases.Clause) (goal : Tree) (ms : List Member)
         → result ≡ Ok Entered.Last → HasFrame lists.new fs clause.now.own.kept mark rest
         → IsClause (own_of (framed S.atom_word)) (S.names store.old) clause.now c
@@ -199,5 +203,5 @@ pub(crate) fn enter<S: Cells>(
     if !met {
         return Ok(Entered::Missed);
     }
-    Ok(begin(lists, code, rest, mark, room, last)?)
+    Ok(begin(lists, code, rest, mark, last)?)
 }

@@ -72,7 +72,7 @@ pub struct Framed<S: Store> {
 }
 
 /// What comes first of this frame, where it goes on there; none where its clause ends.
-fn first_of<W: Copy>(frame: &Frame, rest: Rest) -> Option<Next<W>>
+pub(crate) fn first_of<W: Copy>(frame: &Frame, rest: Rest) -> Option<Next<W>>
     requires { GoesOn frame.now.work rest.address }
     ensures { IsFirstOf frame.now rest frame.now.work result }
 {

@@ -12,6 +12,7 @@ mod goals;
 pub mod machine;
 mod members;
 mod putting;
+mod room;
 mod steps;
 
 pub use framed::{Extent, Framed, KeptCall};

@@ -1,8 +1,8 @@
 //! Members that come first, as the moves at members that are no goals have them.
+ghost use Rattle.iso_model.specs.Search.RunLaws.Spans.{ComesBeyond};
 ghost use Rattle.iso_machine.specs.FrameMembers.{IsMemberFirst, nodes_of};
 ghost use Rattle.iso_machine.specs.MemberLaws.{member_gives, member_comes, member_costs, member_takes};
 
-use super::calling::has_room;
 use super::framed::Framed;
 use iso_cells::Cells;
 use iso_control::members::Members;
@@ -18,7 +18,7 @@ impl<S: Cells + Drop> Members<S> for Framed<S> {
 
     ghost leads = { IsMemberFirst };
 
-    ghost over = { λ limit s. Unit {0} };
+    ghost over = { ComesBeyond };
 
     fn node(&self, place: usize) -> Node<S::Word> {
         self.nodes[place]
@@ -42,7 +42,7 @@ impl<S: Cells + Drop> Members<S> for Framed<S> {
     }
 
     fn has_room(search: &Search<S, Framed<S>>) -> bool {
-        has_room(search)
+        search.choices.len() < search.limit as usize
     }
 
     ghost led = { member_gives S.atom_word };
@@ -53,5 +53,5 @@ impl<S: Cells + Drop> Members<S> for Framed<S> {
 
     ghost led_pending = { member_takes S.atom_word };
 
-    ghost spans = { λ limit s over. tt };
+    ghost spans = { λ limit s full. full.1 };
 }

@@ -1,6 +1,8 @@
 //! What the machine does at what comes first of a list: it calls goals, and takes steps of its own.
 ghost use Rattle.std.specs.Prelude.{◌≡◌, ℕ, None, Err, IfOk, OnErr, Option};
+ghost use Rattle.iso_model.specs.Search.RunLaws.Spans.{ComesBeyond};
 ghost use Rattle.iso_model.specs.Search.Walker.{State};
+ghost use Rattle.iso_model.proofs.Search.RunLaws.Quiets.{reaches_behind};
 ghost use Rattle.iso_search_core.specs.declared.nows.Now.TheVariants as now;
 ghost use Rattle.iso_frames.specs.declared.frames.Next.TheVariants as next;
 ghost use Rattle.iso_search.specs.EngineStates.{Represents, Refused, weight};
@@ -33,7 +35,7 @@ fn run_code<S: Cells + Drop>(
     requires now { search.old.now ≡ now.Running (next.Code rest) }
     requires there { IsOtherThere search.old.lists.frames.items rest }
     requires stands { (s : State) × Represents S.Store (framed S.atom_word) search.old s }
-    ensures { Moved S.Store (framed S.atom_word) (λ s. Unit {0}) search.old result search.new }
+    ensures { Moved S.Store (framed S.atom_word) (ComesBeyond search.old.limit) search.old result search.new }
 {
     match act_there(search.lists.frames.as_slice(), rest) {
         Act::Computes => run_arithmetic(search, rest),
@@ -42,7 +44,7 @@ fn run_code<S: Cells + Drop>(
 }
 
 impl<S: Cells + Drop> Calls<S> for Framed<S> {
-    ghost over = { λ limit s. Unit {0} };
+    ghost over = { ComesBeyond };
 
     ghost by_step = { IsByStep };
 
@@ -78,7 +80,7 @@ impl<S: Cells + Drop> Calls<S> for Framed<S> {
         requires stands { (s : State) × Represents S.Store (framed S.atom_word) search.old s }
         requires tries { TriesNext search.old retry }
         ensures next { (s : State) → Represents S.Store (framed S.atom_word) search.old s
-            → IfOk result (λ n. ComesNext S.Store (framed S.atom_word) (λ limit s. Unit {0}) IsByStep n None s search.new) }
+            → IfOk result (λ n. ComesNext S.Store (framed S.atom_word) ComesBeyond IsByStep n None s search.new) }
         ensures went { IfOk result WentOrFull }
         ensures stopped { (s : State) → Represents S.Store (framed S.atom_word) search.old s
             → OnErr result (Refused S.Store (framed S.atom_word) search.new s) }
@@ -90,7 +92,7 @@ impl<S: Cells + Drop> Calls<S> for Framed<S> {
         callers::try_next(search, retry)
     }
 
-    ghost spans = { λ limit s over. tt };
+    ghost spans = { λ limit s full. full.1 };
 
-    ghost leads = { λ limit s t quiet over. tt };
+    ghost leads = { λ limit s t quiet beyond. reaches_behind quiet beyond };
 }

@@ -2,6 +2,7 @@
 pub mod Bodies
 pub mod Keys
 pub mod Databases
+pub mod Clashes
 pub mod Errors
 pub mod Worlds
 pub mod Settlements

@@ -11,7 +11,7 @@ use Rattle.iso_model.specs.Terms.Copies.{renamed}
 use Rattle.iso_model.specs.Search.Bodies.{Body, Cut, Run, And, Or, If, Choose, map_body, is_true}
 use Rattle.iso_model.specs.Search.Databases as databases
 use Rattle.iso_model.specs.Search.Walker.{State, World, Alternative, Member, Goal, Fail, tried_clause, before, arguments_size, body_size, clause_size, query_size}
-use Rattle.iso_model.specs.Search.RunLaws.Sameness.{SameList, flat}
+use Rattle.iso_model.specs.Search.RunLaws.Sameness.{SameList}
 use Rattle.iso_model.proofs.Search.CallLemmas.{clause_found, clause_keeps, clause_missed}
 use Rattle.iso_store_core.specs.Presents.{Grows, Present, KeepsMarks}
 use Rattle.iso_store_core.specs.Retaining.{CountsCells}
@@ -262,7 +262,7 @@ module _ {S W M : Type 0} (g : Ghosts S W M) where
           let engine = subst (λ (ms : List Member). IsEngine g linked (onward e store nodes words n) (record own { list = ms })) (sym fact) (behind_engine n is) in
           let h = behind_values in
           let under : SameUnder q.substitution there.subst there = record {
-            goals = subst (λ (ms : List Member). SameList q.substitution there.subst (flat ms) (flat ms)) (sym fact) h.goals;
+            goals = subst (λ (ms : List Member). SameList q.substitution there.subst ms ms) (sym fact) h.goals;
             shown = h.shown;
             beyond = h.beyond;
             twice = h.twice;

@@ -30,7 +30,7 @@ module _ {S W M : Type 0} where
     leading = link_comes;
     led_cost = link_costs;
     led_pending = link_takes;
-    spans = λ limit s over. over;
+    spans = λ limit s full. full.0;
     all = λ l. as_much (extent_of l);
     top = λ l k stands. stands;
     more = list_more;

@@ -4,7 +4,7 @@ use Rattle.std.proofs.Common.{◌++◌, subst, sym, le_refl, take-take, take-app
 use Rattle.iso_model.specs.Terms.Trees.{Tree}
 use Rattle.iso_model.specs.Terms.Substitutions.{Subst}
 use Rattle.iso_model.specs.Search.Bodies.{Body}
-use Rattle.iso_model.specs.Search.RunLaws.Sameness.{SameList, flat}
+use Rattle.iso_model.specs.Search.RunLaws.Sameness.{SameList}
 use Rattle.iso_model.specs.Search.Walker.{Member}
 use Rattle.iso_store_core.specs.Presents.{Present, KeepsWords, meaning}
 use Rattle.iso_plain_core.specs.declared.members.Link.{Link}
@@ -105,7 +105,7 @@ module _ {S W M : Type 0} where
       (record { stand = λ w h. h; terms = λ w h. refl }) list
 
   pub list_values : (p q : Present W) (u : Subst) (l : Linked S W M) (k : Extent) (i : Option ℕ) (ms : List Member)
-      → HasValues p q u → IsList p l k i ms → SameList q.substitution u (flat ms) (flat ms)
+      → HasValues p q u → IsList p l k i ms → SameList q.substitution u ms ms
   list_values p q u l k i ms values list = members_value values (links_at l k) i ms list
 
 pub as_much : (k : Extent) → IsNoMore k k

@@ -99,7 +99,7 @@ impl<S: Store + Drop> Calls<S> for Linked<S> {
         Ok(Next::Went)
     }
 
-    ghost spans = { λ limit s over. over };
+    ghost spans = { λ limit s full. full.0 };
 
     ghost leads = { λ limit s t quiet over. reaches_behind quiet over };
 }

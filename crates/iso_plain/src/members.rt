@@ -50,5 +50,5 @@ impl<S: Store> Members<S> for Linked<S> {
 
     ghost led_pending = { link_takes };
 
-    ghost spans = { λ limit s over. over };
+    ghost spans = { λ limit s full. full.0 };
 }

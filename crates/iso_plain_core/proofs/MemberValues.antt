@@ -4,7 +4,7 @@ use Rattle.iso_model.specs.Terms.Trees.{Tree}
 use Rattle.iso_model.specs.Terms.Substitutions.{Subst, apply}
 use Rattle.iso_model.specs.Search.Bodies.{Body, Run, And, Or, If, Choose, map_body}
 use Rattle.iso_model.specs.Search.Walker.{Member}
-use Rattle.iso_model.specs.Search.RunLaws.Sameness.{flat, SameList, same_cut, same_failure, same_leave, same_gathering}
+use Rattle.iso_model.specs.Search.RunLaws.Sameness.{SameList, same_cut, same_failure, same_leave, same_gathering}
 use Rattle.iso_model.proofs.Search.RunLaws.SameSteps.{put_alike}
 use Rattle.iso_store_core.specs.Presents.{Present}
 use Rattle.iso_program.specs.Values.{HasValues}
@@ -34,8 +34,8 @@ module _ {W : Type 0} {p q : Present W} {u : Subst} (h : HasValues p q u) where
   template_value (runs {g = w} {t = t} at is) = word_value w t is
 
   -- a member before others
-  pub member_value : (nodes : List (Node W)) (f : Link) (m : Member) (ms : List Member) → IsMember p nodes f m → SameList q.substitution u (flat ms) (flat ms) → SameList q.substitution u (flat (m ∷ ms)) (flat (m ∷ ms))
-  member_value nodes f m ms (a_body {b = b} asks body) same = put_alike q.substitution u (flat ms) (flat ms) b b f.height (body_value body) same
+  pub member_value : (nodes : List (Node W)) (f : Link) (m : Member) (ms : List Member) → IsMember p nodes f m → SameList q.substitution u ms ms → SameList q.substitution u (m ∷ ms) (m ∷ ms)
+  member_value nodes f m ms (a_body {b = b} asks body) same = put_alike q.substitution u ms ms b b f.height (body_value body) same
   member_value nodes f m ms (a_cut asks) same = same_cut same
   member_value nodes f m ms (a_failure asks) same = same_failure same
   member_value nodes f m ms (an_end asks) same = same_leave same

@@ -1,11 +1,12 @@
 -- What the first argument of a head shows.
-use Rattle.std.proofs.Common.{◌≡◌, ◌≢◌, ℕ, zero, suc, ◌+◌, ◌-◌, ◌<◌, List, [], ◌∷◌, ◌++◌, length, take, drop, get_or, true, ◌≤◌, subst₂, refl, ap, ap₂, sym, ◌∙◌, subst, arith, Some, length-append}
+use Rattle.std.proofs.Common.{◌≡◌, ◌≢◌, ℕ, zero, suc, ◌+◌, ◌-◌, ◌<◌, List, [], ◌∷◌, ◌++◌, length, take, drop, get_or, true, ◌≤◌, subst₂, refl, ap, ap₂, sym, ◌∙◌, subst, arith, Some, length-append, nat_le}
 use Rattle.std.specs.List.{All}
+use Rattle.std.proofs.lemmas.Bool.{and_parts, leb-true}
 use Rattle.std.proofs.lemmas.List.{nil_from_length, take_all, get_or_default}
 use Rattle.std.proofs.lemmas.Option.{slice_get-get_or}
 use Rattle.std.proofs.Math.Seq.{take-suc}
 use Rattle.iso_atoms.specs.Texts.{text_at, EachOnce}
-use Rattle.iso_model.specs.Terms.Trees.{Tree, Variable, Integer, Name, Apply, More, row, count}
+use Rattle.iso_model.specs.Terms.Trees.{Tree, Variable, Integer, Name, Apply, End, More, row, count}
 use Rattle.iso_model.specs.Terms.Sorts.{is_term, is_row}
 use Rattle.iso_model.specs.Terms.Substitutions.{Subst, apply}
 use Rattle.iso_model.specs.Terms.Unifiers.{NeverEqual}
@@ -16,9 +17,10 @@ use Rattle.iso_store_core.specs.declared.patterns.Part.TheVariants.{Variable as 
 use Rattle.iso_store_core.specs.declared.shapes.Shape.{Shape}
 use Rattle.iso_store_core.specs.declared.shapes.Shape.TheVariants as shape
 use Rattle.iso_store_core.specs.Shapes.{IsShape}
+use Rattle.iso_store_core.specs.Exact.{are_exact}
 use Rattle.iso_store_core.specs.Patterns.{IsNamed, IsPattern, part_step, after_parts}
 use Rattle.iso_store_core.specs.Arguments.{argument}
-use Rattle.iso_program.specs.Firsts.{IsTop, HasFirst, Leaves, Shows, Differs}
+use Rattle.iso_program.specs.Firsts.{IsTop, HasFirst, HasNoFirst, TakesMore, Leaves, Shows, Differs}
 use Rattle.iso_program.proofs.PairLemmas.{after_joined, gathered_length}
 
 -- ---- part by part
@@ -106,6 +108,65 @@ first_of_all names ks i k t whole all shows =
     let below : i < length ks = omega arith in
     let end = after_next names ks i last below (get_or_default ks i k last below) in
     has_first names k last (after_parts names (take i ks) []) t shows (sym end ∙ ap (λ js. after_parts names js []) (take_all (suc i) ks (omega arith)) ∙ whole.term)
+
+-- ---- parts that are exact
+
+exact_next : (names : List (List ℕ)) (k : Part) (ks : List Part) (ts : List Tree) → are_exact (k ∷ ks) (length ts) ≡ true
+    → are_exact ks (length (with_step (part_step names Variable k) ts)) ≡ true
+exact_next names (Compound a n) ks ts exact =
+    let both = and_parts (nat_le n (length ts)) (are_exact ks (length ts - n + 1)) exact in
+    ap (are_exact ks) (gathered_length (text_at names a) n ts (leb-true n (length ts) both.0)) ∙ both.1
+exact_next names k ks ts exact = ap (are_exact ks) (length-append ts _) ∙ exact
+
+enough_here : (k : Part) (ks : List Part) (before : ℕ) → are_exact (k ∷ ks) before ≡ true → TakesMore k before → ⊥
+enough_here (Compound a n) ks before exact more =
+    let few = leb-true n before (and_parts (nat_le n before) (are_exact ks (before - n + 1)) exact).0 in
+    absurd {A = ⊥} (omega arith)
+enough_here k ks before exact more = more
+
+-- none of them takes more terms than came before it
+pub enough_before : (names : List (List ℕ)) (ks : List Part) (ts : List Tree) (i : ℕ) (k d : Part)
+    → are_exact ks (length ts) ≡ true → i < length ks → k ≡ get_or ks i d
+    → TakesMore k (length (after_parts names (take i ks) ts)) → ⊥
+enough_before names [] ts i k d exact below is more = elim below [ ]
+enough_before names (j ∷ ks) ts zero k d exact below is more =
+    enough_here j ks (length ts) exact (subst (λ (p : Part). TakesMore p (length ts)) is more)
+enough_before names (j ∷ ks) ts (suc i) k d exact below is more =
+    enough_before names ks (with_step (part_step names Variable j) ts) i k d (exact_next names j ks ts exact) (omega arith) is more
+
+-- ---- terms without a first argument
+
+pub some_parts : (names : List (List ℕ)) (ks : List Part) (t : Tree) → IsPattern names ks t → 0 < length ks
+some_parts names [] t whole = (let none : [] ≡ t ∷ [] = whole.term in cc none)
+some_parts names (k ∷ ks) t whole = omega arith
+
+-- one that is made of no term
+made_of_none : (names : List (List ℕ)) (k : Part) (t : Tree) → with_step (part_step names Variable k) [] ≡ t ∷ [] → HasNoFirst t
+made_of_none names (Place j) t is f u us some =
+    let same : Variable j ∷ [] ≡ Apply f (More u us) ∷ [] = is ∙ ap (λ (v : Tree). v ∷ []) some in
+    cc same
+made_of_none names (Number z) t is f u us some =
+    let same : Integer z ∷ [] ≡ Apply f (More u us) ∷ [] = is ∙ ap (λ (v : Tree). v ∷ []) some in
+    cc same
+made_of_none names (Atom a) t is f u us some =
+    let same : Name (text_at names a) ∷ [] ≡ Apply f (More u us) ∷ [] = is ∙ ap (λ (v : Tree). v ∷ []) some in
+    cc same
+made_of_none names (Compound a n) t is f u us some =
+    let none : 0 - n ≡ 0 = omega arith in
+    let same : Apply (text_at names a) End ∷ [] ≡ Apply f (More u us) ∷ [] =
+    sym (ap (λ m. take m [] ++ Apply (text_at names a) (row (drop m [])) ∷ []) none) ∙ is ∙ ap (λ (v : Tree). v ∷ []) some in
+    cc same
+
+-- the whole is such a term, where nothing comes before its last part
+pub none_of_all : (names : List (List ℕ)) (ks : List Part) (i : ℕ) (t : Tree) → IsPattern names ks t → suc i ≡ length ks
+    → length (after_parts names (take i ks) []) ≡ 0 → HasNoFirst t
+none_of_all names ks i t whole all none =
+    let last = get_or ks i (Place 0) in
+    let below : i < length ks = omega arith in
+    let end = after_next names ks i last below (get_or_default ks i (Place 0) last below) in
+    let all_parts = ap (λ (js : List Part). after_parts names js []) (take_all (suc i) ks (omega arith)) in
+    let nothing = ap (with_step (part_step names Variable last)) (nil_from_length (after_parts names (take i ks) []) none) in
+    made_of_none names last t (sym nothing ∙ sym end ∙ all_parts ∙ whole.term)
 
 -- ---- terms that are never equal, as their outermost parts show
 

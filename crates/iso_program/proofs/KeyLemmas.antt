@@ -1,9 +1,10 @@
--- A clause whose key doesn't fit the call's misses the call, and may be left out.
+-- A clause whose key doesn't fit the call's misses the call, and may be left out. The call may enter the others.
 use Rattle.std.proofs.Common.{◌≡◌, ℕ, List, [], ◌∷◌, true, false, Option, Some, None, refl, sym, ap, ◌∙◌, inl, inr, true≢false}
 use Rattle.std.specs.List.{filter}
-use Rattle.std.specs.Option.{IfSome}
+use Rattle.std.specs.Prelude.{MatchOption}
 use Rattle.std.proofs.lemmas.Bool.{cases_Bool}
 use Rattle.iso_model.specs.Terms.Trees.{Tree}
+use Rattle.iso_model.specs.Search.Clashes.{EachEnters}
 use Rattle.iso_model.specs.Search.Databases as databases
 use Rattle.iso_model.specs.Search.RunLaws.Thinness.{Misses, Skips, no_clause, tried_too, passed_over}
 use Rattle.iso_store_core.specs.Arguments.{argument}
@@ -15,11 +16,12 @@ use Rattle.iso_db.specs.Databases as db
 use Rattle.iso_db.specs.Fits.{fits, FirstKey, Atom, Compound}
 use Rattle.iso_db.proofs.KeyLemmas.{key_itself}
 use Rattle.iso_program.specs.declared.clauses.Clause.{Clause}
-use Rattle.iso_program.specs.Firsts.{HasFirst, Differs}
+use Rattle.iso_program.specs.Firsts.{HasFirst, HasNoFirst, Differs}
 use Rattle.iso_program.specs.FirstKeys.{key_of_integer, key_of_part, key_of_first, key_of_shape, ShowsKey}
 use Rattle.iso_program.specs.Keying.{EachKeyed}
 use Rattle.iso_program.specs.Kept.{Keeping, IsClause}
 use Rattle.iso_program.specs.Programs.{AreClauses, no_clauses, more_clauses}
+use Rattle.iso_program.proofs.EnterLemmas.{key_enters}
 use Rattle.iso_program.proofs.FirstLemmas.{never_shown, never_compound}
 
 -- ---- outermost parts that differ
@@ -48,8 +50,8 @@ module _ (names : List (List ℕ)) (call : Tree) where
       → Misses call c
   key_misses None kept c shows is other = absurd (true≢false other)
   key_misses (Some k) kept c shows is other = by_first kept.first other is.first where
-    by_first : (o : Option Part) → fits (Some k) (key_of_first o) ≡ false → IfSome o (λ p. HasFirst names p c.head)
-        → Misses call c
+    by_first : (o : Option Part) → fits (Some k) (key_of_first o) ≡ false
+        → MatchOption o (HasNoFirst c.head) (λ p. HasFirst names p c.head) → Misses call c
     by_first None other has = absurd (true≢false other)
     by_first (Some p) other has = λ r.
         (let first = shows.1 in
@@ -57,22 +59,34 @@ module _ (names : List (List ℕ)) (call : Tree) where
         never_compound names p call (argument 0 call) c.head r has first.name first.arguments first.is first.some refl
         (λ u top. never_shown names shows.0 p (argument 0 call) u r first.once first.shows first.term top differs))
 
-  -- Of the clauses those that fit are clauses, and those that don't are left out.
+  -- Of the clauses those that fit are clauses, which the call may enter, and those that don't are left out.
   pub record Fitting {C : Type 0} (keeps : Keeping C) (ks : List (db.Clause (Clause C))) (cs : List databases.Clause)
       : Type 0 where
     pub clauses : List databases.Clause
     pub are : AreClauses keeps names ks clauses
     pub skips : Skips call clauses cs
+    pub enter : EachEnters call clauses
 
   pub fitting : {C : Type 0} {keeps : Keeping C} (added : ℕ) (keys : ℕ → Option FirstKey)
       (key : Option FirstKey) {ks : List (db.Clause (Clause C))} {cs : List databases.Clause} → ShowsKey names key call
       → EachKeyed added keys ks → AreClauses keeps names ks cs
       → Fitting keeps (filter (λ k. fits key (keys k.number)) ks) cs
-  fitting added keys key shows keyed no_clauses = record { clauses = []; are = no_clauses; skips = no_clause }
+  fitting added keys key shows keyed no_clauses =
+      record { clauses = []; are = no_clauses; skips = no_clause; enter = tt }
   fitting added keys key shows keyed (more_clauses {k = k} {c = c} number is others) =
       let more = fitting added keys key shows keyed.1 others in
       elim (cases_Bool (fits key (keys k.number))) [
-        | inl fit ↦ rw fit (record { clauses = c ∷ more.clauses; are = more_clauses number is more.are; skips = tried_too more.skips })
+        | inl fit ↦ rw fit (record {
+          clauses = c ∷ more.clauses;
+          are = more_clauses number is more.are;
+          skips = tried_too more.skips;
+          enter = (key_enters names call key k.value c shows is (ap (fits key) (sym keyed.0.key) ∙ fit), more.enter);
+        })
         | inr other ↦ (let misses = key_misses key k.value c shows is (ap (fits key) (sym keyed.0.key) ∙ other) in
-            rw other (record { clauses = more.clauses; are = more.are; skips = passed_over misses more.skips }))
+            rw other (record {
+              clauses = more.clauses;
+              are = more.are;
+              skips = passed_over misses more.skips;
+              enter = more.enter;
+            }))
       ]

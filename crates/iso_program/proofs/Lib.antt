@@ -11,6 +11,7 @@ pub mod ProgramLemmas
 pub mod AddingLemmas
 pub mod ChangeLemmas
 pub mod FirstLemmas
+pub mod EnterLemmas
 pub mod KeyLemmas
 pub mod KeyingLemmas
 pub mod LeavingLemmas

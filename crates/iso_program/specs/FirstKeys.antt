@@ -9,7 +9,7 @@ use Rattle.iso_store_core.specs.declared.shapes.Shape.{Shape}
 use Rattle.iso_store_core.specs.declared.shapes.Shape.TheVariants as shape
 use Rattle.iso_db.specs.Fits.{FirstKey}
 use Rattle.iso_db.specs.Fits.{Integer, Wide, Atom, Compound}
-use Rattle.iso_program.specs.Firsts.{ShowsFirst}
+use Rattle.iso_program.specs.Firsts.{ShowsFirst, HasFreeFirst}
 
 -- the key of an integer: all of it where it has 64 bits, else its upper half, with the sign, and its lower half
 abbrev pub key_of_integer : ℤ → FirstKey
@@ -34,7 +34,8 @@ key_of_shape (shape.Int z) = Some (key_of_integer z)
 key_of_shape (shape.Atom a) = Some (Atom a)
 key_of_shape (shape.Compound a n) = Some (Compound a n)
 
--- Where these are the names of the atoms, the key is that of the call's first argument. Without a key nothing is said.
+-- Where these are the names of the atoms, the key is that of the call's first argument. Without a key that is a
+-- variable, or there is none.
 abbrev pub ShowsKey : List (List ℕ) → Option FirstKey → Tree → Type 0
-ShowsKey names None t = Unit {0}
+ShowsKey names None t = HasFreeFirst t
 ShowsKey names (Some k) t = (s : Shape) × ShowsFirst names s t × (key_of_shape s ≡ Some k)

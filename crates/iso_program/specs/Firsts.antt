@@ -1,5 +1,5 @@
 -- What the outermost parts of patterns show of terms.
-use Rattle.std.specs.Prelude.{◌≡◌, ◌≢◌, ℕ, ◌+◌, ◌<◌, List, ◌∷◌, length, Option, Some, None, IfSome, true}
+use Rattle.std.specs.Prelude.{◌≡◌, ◌≢◌, ℕ, ◌+◌, ◌<◌, List, ◌∷◌, length, Option, Some, None, MatchOption, true}
 use Rattle.iso_atoms.specs.Texts.{text_at, EachOnce}
 use Rattle.iso_model.specs.Terms.Trees.{Tree, Variable, Integer, Name, Apply, More, row, count}
 use Rattle.iso_model.specs.Terms.Sorts.{is_term}
@@ -41,10 +41,23 @@ abbrev pub IsFirstArgument : {W : Type 0} → Present W → Option W → Tree �
 IsFirstArgument p None t = arity t ≡ 0
 IsFirstArgument p (Some w) t = (0 < arity t) × (argument 0 t ≡ meaning p w)
 
+-- the term has no first argument
+abbrev pub HasNoFirst : Tree → Type 0
+HasNoFirst t = (f : List ℕ) (u us : Tree) → t ≡ Apply f (More u us) → ⊥
+
+-- its first argument is a variable, if it has one
+abbrev pub HasFreeFirst : Tree → Type 0
+HasFreeFirst t = (f : List ℕ) (u us : Tree) → t ≡ Apply f (More u us) → (n : ℕ) × (u ≡ Variable n)
+
 -- The part, where there is one, is the outermost one of the head's first argument, where these are the names of the
--- atoms.
+-- atoms. Else the head has no argument.
 abbrev pub IsFirstOf : List (List ℕ) → Option Part → Tree → Type 0
-IsFirstOf names first head = IfSome first (λ k. HasFirst names k head)
+IsFirstOf names first head = MatchOption first (HasNoFirst head) (λ k. HasFirst names k head)
+
+-- the part takes more terms than these
+abbrev pub TakesMore : Part → ℕ → Type 0
+TakesMore (Compound a n) count = count < n
+TakesMore k count = ⊥
 
 -- of so many terms the part leaves the first ones, so many, as they are
 abbrev pub Leaves : Part → ℕ → ℕ → Type 0

@@ -3,6 +3,7 @@
 use Rattle.std.specs.Prelude.{◌≡◌, ◌≤◌, ℕ, List, [], ◌∷◌, Option, Some, None}
 use Rattle.iso_model.specs.Terms.Trees.{Tree}
 use Rattle.iso_model.specs.Search.Databases as databases
+use Rattle.iso_model.specs.Search.Clashes.{EachEnters}
 use Rattle.iso_model.specs.Search.RunLaws.Thinness.{Skips}
 use Rattle.iso_db.specs.Databases as db
 use Rattle.iso_db.specs.Presents.{GivesKeyed, Stands}
@@ -57,12 +58,13 @@ pub record GivesFor {C : Type 0} (keeps : Keeping C) (names : List (List ℕ)) (
   pub skips : Skips call clauses cs
 
 -- Of these clauses of a procedure, but for some that miss the call, this one comes first, if there is one, and the view
--- gives those behind it.
+-- gives those behind it. The call may enter each of them, as first arguments show.
 pub record FirstLeft {C : Type 0} (keeps : Keeping C) (names : List (List ℕ)) (d : Db (Clause C)) (first : Option ℕ)
     (later : KeyedView) (call : Tree) (cs : List databases.Clause) : Type 0 where
   pub clauses : List databases.Clause
   pub are : NextLeft (AreLeft keeps names d) first later clauses
   pub skips : Skips call clauses cs
+  pub enter : EachEnters call clauses
 
 -- These clauses of a procedure, but for some that miss the call, are left under the number and behind the view.
 pub record SomeLeft {C : Type 0} (keeps : Keeping C) (names : List (List ℕ)) (d : Db (Clause C)) (number : ℕ)

@@ -1,10 +1,11 @@
 //! What the first arguments of heads and goals show, before anything is made (7.7.10).
-ghost use Rattle.std.specs.Prelude.{◌≡◌, ℕ, List, IfSome};
+ghost use Rattle.std.specs.Prelude.{◌≡◌, ℕ, List, IfSome, MatchOption, true};
 ghost use Rattle.iso_model.specs.Terms.Trees.{Tree};
 ghost use Rattle.iso_model.specs.Terms.Arguments.{arity};
 ghost use Rattle.iso_store_core.specs.Presents.{Holds, meaning};
+ghost use Rattle.iso_store_core.specs.Exact.{are_exact};
 ghost use Rattle.iso_store_core.specs.Patterns.{IsPattern};
-ghost use Rattle.iso_program.specs.Firsts.{HasFirst, IsFirstArgument, ShowsFirst, Leaves};
+ghost use Rattle.iso_program.specs.Firsts.{HasFirst, HasNoFirst, IsFirstArgument, ShowsFirst, TakesMore, Leaves};
 ghost use Rattle.iso_program.specs.FirstKeys as keys;
 ghost use Rattle.iso_program.specs.FirstKeys.{ShowsKey};
 
@@ -13,7 +14,7 @@ use iso_store_core::{Part, Shape, Store};
 
 /// How many of so many terms the part leaves as they are; none where it takes more than there are.
 fn left_by(part: Part, count: usize) -> Option<usize>
-    ensures { IfSome result (λ left. Leaves part count left) }
+    ensures { MatchOption result (TakesMore part count) (λ left. Leaves part count left) }
 {
     match part {
         Part::Variable(_) | Part::Integer(_) | Part::Atom(_) => Some(count),
@@ -26,10 +27,11 @@ fn left_by(part: Part, count: usize) -> Option<usize>
     }
 }
 
-/// The outermost part of the first argument of the compound that has these parts. None says nothing.
+/// The outermost part of the first argument of the term that has these parts; none where it has no argument.
 pub(crate) fn first_part(parts: &[Part]) -> Option<Part>
+    requires { are_exact parts.now 0 ≡ true }
     ensures { (names : List (List ℕ)) (t : Tree) → IsPattern names parts.now t
-        → IfSome result (λ k. HasFirst names k t) }
+        → MatchOption result (HasNoFirst t) (λ k. HasFirst names k t) }
 {
     let mut first = 0;
     let mut open = 0;
@@ -87,12 +89,13 @@ fn key_of_shape(shape: Shape) -> Option<FirstKey>
     }
 }
 
-/// The shape of the first of the goal's so many arguments, where it has any.
+/// The shape of the first of the goal's so many arguments; none where it has none.
 #[inline(always)]
 fn first_shape<S: Store>(store: &S, goal: S::Word, count: usize) -> Option<Shape>
     requires goal { Holds (S.present store.now) goal }
     requires count { count ≡ arity (meaning (S.present store.now) goal) }
-    ensures { IfSome result (λ shape. ShowsFirst (S.names store.now) shape (meaning (S.present store.now) goal)) }
+    ensures { MatchOption result (HasNoFirst (meaning (S.present store.now) goal))
+        (λ shape. ShowsFirst (S.names store.now) shape (meaning (S.present store.now) goal)) }
 {
     if count == 0 {
         return None;

@@ -15,6 +15,7 @@ use Rattle.iso_search_core.specs.Own.{own_of}
 use Rattle.iso_store_core.specs.Presents.{Present}
 use Rattle.iso_db.specs.Keyed.{remaining_keyed}
 use Rattle.iso_search.specs.declared.search.Search.{Search}
+use Rattle.iso_model.specs.Search.Clashes.{EachEnters}
 use Rattle.iso_model.specs.Search.Databases as databases
 use Rattle.iso_model.specs.Search.Walker.{State, Alternative, Clauses, with_others}
 use Rattle.iso_search_core.specs.declared.lists.Lists as lists
@@ -94,17 +95,21 @@ module _ {S L W M K P C N B O : Type 0} (g : Ghosts S W M) (l : lists.Ghosts L S
     first_left : AreLeft (own_of l) (g.names e.store) e.db attempt.clause attempt.later (has.are.first ∷ has.are.others)
     first_left = subst (λ (cs : List databases.Clause). AreLeft (own_of l) (g.names e.store) e.db attempt.clause attempt.later cs) has.are.is has.are
 
-    next_calls : (xs : List databases.Clause) (clause : ℕ) (later : KeyedView) (choices : Vec (kept.Choice W M K P C) Global) → ((k : K) → l.within e.lists k → l.below k (l.whole e.lists))
+    first_enter : EachEnters has.call (has.are.first ∷ has.are.others)
+    first_enter = subst (EachEnters has.call) has.are.is has.enter
+
+    next_calls : (xs : List databases.Clause) → EachEnters has.call (has.are.first ∷ xs) → (clause : ℕ) (later : KeyedView) (choices : Vec (kept.Choice W M K P C) Global) → ((k : K) → l.within e.lists k → l.below k (l.whole e.lists))
         → AreLeft (own_of l) (g.names e.store) e.db attempt.clause attempt.later (has.are.first ∷ xs) → AreLeft (own_of l) (g.names e.store) e.db clause later xs
         → choices.items ≡ take (length e.choices.items - 1) e.choices.items ++ with_left c (left.Clauses (next_of attempt clause later)) ∷ []
         → Calls g l (record e { choices = choices }) attempt c.rest (with_others has.call xs a.list (went_back a below s)) has.call has.are.first xs a.list
-    next_calls [] clause later choices top is next made = absurd (cc next.is)
-    next_calls (y ∷ ys) clause later choices top is next made = record {
+    next_calls [] enter clause later choices top is next made = absurd (cc next.is)
+    next_calls (y ∷ ys) enter clause later choices top is next made = record {
       ahead = ahead_changed g l e c s a below w (left.Clauses (next_of attempt clause later)) (Clauses has.call (y ∷ ys)) choices top (ap entered_at has.left)
-          (record { call = has.call; clauses = y ∷ ys; is_for = has.is_for; left = refl; are = next }) made;
+          (record { call = has.call; clauses = y ∷ ys; is_for = has.is_for; left = refl; are = next; enter = enter.1 }) made;
       space = space;
       is_for = is_for;
       clauses = is;
+      enter = enter;
     }
 
     -- the newest choice was left at its next clause
@@ -115,19 +120,20 @@ module _ {S L W M K P C N B O : Type 0} (g : Ghosts S W M) (l : lists.Ghosts L S
       clause = has.are.first;
       others = has.are.others;
       left = has.left ∙ ap (Clauses has.call) has.are.is;
-      calls = next_calls has.are.others clause later choices top first_left next made;
+      calls = next_calls has.are.others first_enter clause later choices top first_left next made;
     }
 
-    last_calls : (xs : List databases.Clause) (store : S) (choices : Vec (kept.Choice W M K P C) Global) → AreLeft (own_of l) (g.names e.store) e.db attempt.clause attempt.later (has.are.first ∷ xs) → xs ≡ []
+    last_calls : (xs : List databases.Clause) → EachEnters has.call (has.are.first ∷ xs) → (store : S) (choices : Vec (kept.Choice W M K P C) Global) → AreLeft (own_of l) (g.names e.store) e.db attempt.clause attempt.later (has.are.first ∷ xs) → xs ≡ []
         → g.present store ≡ g.present e.store → ((m : M) (p : Present W) → g.older m c.mark → g.stands e.store m p → g.stands store m p) → KeepsTexts (g.names e.store) (g.names store)
         → choices.items ≡ take (length e.choices.items - 1) e.choices.items
         → Calls g l (record e { store = store; choices = choices }) attempt c.rest (with_others has.call xs a.list (went_back a below s)) has.call has.are.first xs a.list
-    last_calls (y ∷ ys) store choices is none same marks texts made = absurd (cc none)
-    last_calls [] store choices is none same marks texts made = record {
+    last_calls (y ∷ ys) enter store choices is none same marks texts made = absurd (cc none)
+    last_calls [] enter store choices is none same marks texts made = record {
       ahead = dropped g l e c s a below w store choices same marks texts made;
       space = space;
       is_for = subst (λ (p : Present W). l.call p e.lists (l.whole e.lists) attempt.call has.call) (sym same) is_for;
       clauses = left_on l texts {d = e.db} attempt.clause attempt.later (has.are.first ∷ []) is;
+      enter = enter;
     }
 
     -- the newest choice was taken away with its last clause
@@ -139,5 +145,5 @@ module _ {S L W M K P C N B O : Type 0} (g : Ghosts S W M) (l : lists.Ghosts L S
       clause = has.are.first;
       others = has.are.others;
       left = has.left ∙ ap (Clauses has.call) has.are.is;
-      calls = last_calls has.are.others store choices first_left none same marks texts made;
+      calls = last_calls has.are.others first_enter store choices first_left none same marks texts made;
     }

@@ -14,6 +14,7 @@ pub mod MeetLemmas
 pub mod MovedLemmas
 pub mod Moves
 pub mod NewestLemmas
+pub mod OverLemmas
 pub mod PaidLemmas
 pub mod RaiseLemmas
 pub mod RefusalLemmas

@@ -5,8 +5,8 @@ use Rattle.iso_model.specs.Search.Walker.{AsIs, Catching, Fail, Gather, Gatherin
 use Rattle.iso_model.specs.Search.Bodies.{Body, map_body}
 use Rattle.iso_model.specs.Search.Replies.{Collecting}
 use Rattle.iso_model.specs.Terms.Trees.{Tree}
-use Rattle.iso_model.specs.Search.RunLaws.Sameness.{flat, Around, Same, going, failing, same_alternative, same_gathering, IsValue, IsOwnCollecting}
-use Rattle.iso_model.proofs.Search.RunLaws.SameSteps.{put_alike, list_same}
+use Rattle.iso_model.specs.Search.RunLaws.Sameness.{Around, Same, going, failing, same_alternative, same_gathering, IsValue, IsOwnCollecting}
+use Rattle.iso_model.proofs.Search.RunLaws.SameSteps.{put_alike, list_same, same_lists}
 use Rattle.iso_model.proofs.Search.RunLaws.Likeness.{Alike}
 use Rattle.iso_search.proofs.Moves.Search.{own_same}
 
@@ -35,21 +35,21 @@ around_pushed s list at =
 
 pub same_first : (s : State) (b c : Body) (mark : ℕ) (ms : List Member) → map_body s.subst b ≡ map_body s.subst c → Around s s → Same (record s { list = Goal b mark ∷ ms }) (record s { list = Goal c mark ∷ ms })
 same_first s b c mark ms same at =
-    going
+    same_lists
     (record { agree = at.agree; next = refl; beside = record { stack = at.beside.stack; world = refl; steps = refl; query = omega arith; built = omega arith } })
-    (put_alike s.subst s.subst (flat ms) (flat ms) b c mark same (list_same ms))
+    (put_alike s.subst s.subst ms ms b c mark same (list_same ms))
 
 -- also before other alternatives, and with something else built
 pub same_inside : (s : State) (b c : Body) (catcher recovery : Tree) (mark built : ℕ) (rest ms : List Member) → map_body s.subst b ≡ map_body s.subst c → IsValue s.subst catcher → IsValue s.subst recovery → Around s s
     → Same (record (pushed rest (Catching catcher recovery) s) { list = Goal b mark ∷ ms; built = built }) (record (pushed rest (Catching catcher recovery) s) { list = Goal c mark ∷ ms; built = built })
 same_inside s b c catcher recovery mark built rest ms same one other at =
-    going
+    same_lists
     (record {
       agree = at.agree;
       next = refl;
       beside = record { stack = same_alternative at.agree refl (omega arith) (list_same rest) refl (one, other) (one, other) at.beside.stack; world = refl; steps = refl; query = omega arith; built = omega arith };
     })
-    (put_alike s.subst s.subst (flat ms) (flat ms) b c mark same (list_same ms))
+    (put_alike s.subst s.subst ms ms b c mark same (list_same ms))
 
 -- so for all of its solutions, with templates of the same value
 pub same_finding : (s : State) (b c : Body) (t template : Tree) (collecting : Collecting) (mark height built : ℕ) (rest : List Member)
@@ -58,10 +58,10 @@ pub same_finding : (s : State) (b c : Body) (t template : Tree) (collecting : Co
     → Same (record (pushed rest (Gathering collecting [] 0) s) { list = Goal b mark ∷ Gather height t ∷ rest; built = built })
     (record (pushed rest (Gathering collecting [] 0) s) { list = Goal c mark ∷ Gather height template ∷ rest; built = built })
 same_finding s b c t template collecting mark height built rest same value own at =
-    going
+    same_lists
     (record {
       agree = at.agree;
       next = refl;
       beside = record { stack = same_alternative at.agree refl (omega arith) (list_same rest) refl own own at.beside.stack; world = refl; steps = refl; query = omega arith; built = omega arith };
     })
-    (put_alike s.subst s.subst (Gather height t ∷ flat rest) (Gather height template ∷ flat rest) b c mark same (same_gathering value (list_same rest)))
+    (put_alike s.subst s.subst (Gather height t ∷ rest) (Gather height template ∷ rest) b c mark same (same_gathering value (list_same rest)))

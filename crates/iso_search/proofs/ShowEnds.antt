@@ -24,7 +24,7 @@ use Rattle.iso_model.specs.Search.BuiltIns.{built_in}
 use Rattle.iso_search_core.proofs.StandingLemmas.{keeps_none, some_same}
 use Rattle.iso_model.specs.Search.Storages.{clause_row, clause_cost, removed_clause, shown_clause}
 use Rattle.iso_model.proofs.Search.RunLaws.CountLemmas.{offered_built}
-use Rattle.iso_model.specs.Search.RunLaws.Sameness.{SameList, flat}
+use Rattle.iso_model.specs.Search.RunLaws.Sameness.{SameList}
 use Rattle.iso_model.specs.Search.Walker.{State, fails, under, taken, tried_right}
 use Rattle.iso_model.proofs.Search.CallLemmas.{unify_found, unify_none}
 use Rattle.iso_search_core.specs.declared.lists.Lists as lists
@@ -48,7 +48,7 @@ module _ {S L W M K P C N B O : Type 0} (g : Ghosts S W M) (l : lists.Ghosts L S
   module _ (e : Search S L W M K P C N B O) (shown : Showing W) (place : P) (s : State) (k : Key) (c : databases.Clause) (cs : List databases.Clause) (t : Shows g l e shown place s k c cs)
       (store : S) (keeps : KeepsMarks (g.stands e.store) (g.stands store)) (texts : KeepsTexts (g.names e.store) (g.names store)) (takes : Takes g e.store store (clause_cost c))
       (chain : KeepsWords (g.present e.store) (g.present store) → l.list (g.present store) e.lists (l.whole e.lists) place s.list)
-      (goals : (u : Subst) → HasValues (g.present e.store) (g.present store) u → SameList (g.present store).substitution u (flat s.list) (flat s.list)) where
+      (goals : (u : Subst) → HasValues (g.present e.store) (g.present store) u → SameList (g.present store).substitution u s.list s.list) where
     abbrev here : Tree
     here = shown_row (g.present e.store) shown
 

@@ -30,8 +30,8 @@ use Rattle.iso_search_core.specs.declared.choices.Choice as kept
 use Rattle.iso_search_core.specs.declared.nows.Now.TheVariants as now
 use Rattle.iso_search_core.specs.Standing.{StandsForChoices, none_kept, one_kept}
 use Rattle.std.specs.Prelude.{Result, Ok, Err, IsErrAnd}
-use Rattle.iso_model.specs.Search.RunLaws.Sameness.{Same, going, SameStack, no_alternative, IsTwice}
-use Rattle.iso_model.proofs.Search.RunLaws.SameSteps.{list_same}
+use Rattle.iso_model.specs.Search.RunLaws.Sameness.{Same, SameStack, no_alternative, IsTwice}
+use Rattle.iso_model.proofs.Search.RunLaws.SameSteps.{list_same, same_lists}
 use Rattle.iso_search_core.specs.declared.lists.Lists as lists
 use Rattle.iso_model.specs.Search.Walker.{World, State, Alternative, Goal, Raise, body_size, idle, opening, shown_query, started}
 use Rattle.iso_model.specs.Search.Additions.{Addition, Adds, Refuses, Check, Fits, Faulty, checked, addition_by, consulted, consult_key}
@@ -63,7 +63,7 @@ no_choice_left e (one_kept is on here newer below) = absurd (cc)
 pub same_fresh : (s : State) → s.subst ≡ Variable → s.stack ≡ [] → Same s s
 same_fresh s subst_is stack_is =
     let twice : IsTwice s.subst = subst (λ (r : Subst). IsTwice r) (sym subst_is) (λ n. refl) in
-    going
+    same_lists
     (record {
       agree = record { shown = refl; beyond = λ x more. refl; twice = twice; other = twice };
       next = refl;

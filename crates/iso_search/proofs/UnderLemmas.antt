@@ -8,8 +8,8 @@ use Rattle.iso_store_core.specs.Presents.{Present}
 use Rattle.iso_search.specs.EngineStates.{SameUnder}
 use Rattle.iso_model.specs.Terms.Trees.{Variable}
 use Rattle.iso_model.specs.Terms.Variables.{variables}
-use Rattle.iso_model.specs.Search.RunLaws.Sameness.{flat, SameList, Around, Same, going, failing}
-use Rattle.iso_model.proofs.Search.RunLaws.SameSteps.{put_alike}
+use Rattle.iso_model.specs.Search.RunLaws.Sameness.{SameList, Around, Same, going, failing}
+use Rattle.iso_model.proofs.Search.RunLaws.SameSteps.{put_alike, same_lists}
 use Rattle.iso_program.specs.Values.{HasValues}
 use Rattle.iso_search_core.specs.Words.{AreVariables, no_word, one_word}
 use Rattle.iso_search.proofs.SameBodies.{around_itself}
@@ -23,7 +23,7 @@ module _ {W : Type 0} {p q : Present W} {u : Subst} (h : HasValues p q u) where
       ap₂ ◌∷◌ value (variables_value others)
 
   -- words that have their values under a substitution, and goals that have theirs
-  pub same_values : (query : List W) (s : State) → q.next ≡ s.next → SameList q.substitution u (flat s.list) (flat s.list) → AreVariables p query (variables s.query) → SameUnder q.substitution u s
+  pub same_values : (query : List W) (s : State) → q.next ≡ s.next → SameList q.substitution u s.list s.list → AreVariables p query (variables s.query) → SameUnder q.substitution u s
   same_values query s next goals words = record {
     goals = goals;
     shown = variables_value words;
@@ -41,15 +41,15 @@ around_under own s list behind h at = record {
 
 -- the same members
 pub same_under : (own : Subst) (s : State) → SameUnder own s.subst s → Same s s → Same (record s { subst = own }) s
-same_under own s h (going at list) = going (around_under own s s.list s.list (record { goals = h.goals; shown = h.shown; beyond = h.beyond; twice = h.twice }) at) h.goals
+same_under own s h (going at list) = same_lists (around_under own s s.list s.list (record { goals = h.goals; shown = h.shown; beyond = h.beyond; twice = h.twice }) at) h.goals
 same_under own s h (failing ms ns is are beside) = failing ms ms is is (record { stack = beside.stack; world = refl; steps = refl; query = omega arith; built = omega arith })
 
 -- with a body in front that has the same value
 pub same_in_front : (own : Subst) (s : State) (b c : Body) (mark : ℕ) (behind : List Member) → s.list ≡ Goal c mark ∷ behind → map_body own b ≡ map_body s.subst c → SameUnder own s.subst (record s { list = behind }) → Same s s
     → Same (record s { list = Goal b mark ∷ behind; subst = own }) s
 same_in_front own s b c mark behind is value h same =
-    going (around_under own s (Goal b mark ∷ behind) behind h (around_itself s c mark behind is same))
-    (subst (λ (ms : List Member). SameList own s.subst (flat (Goal b mark ∷ behind)) (flat ms)) (sym is) (put_alike own s.subst (flat behind) (flat behind) b c mark value h.goals))
+    same_lists (around_under own s (Goal b mark ∷ behind) behind h (around_itself s c mark behind is same))
+    (subst (λ (ms : List Member). SameList own s.subst (Goal b mark ∷ behind) ms) (sym is) (put_alike own s.subst behind behind b c mark value h.goals))
 
 -- a body with terms for its variables that have the same values
 pub body_under : (own terms u new : Subst) → ((k : ℕ) → apply own (terms k) ≡ apply u (new k)) → (b : Body) → map_body own (map_body terms b) ≡ map_body u (map_body new b)

@@ -3,6 +3,7 @@ use Rattle.std.specs.Prelude.{◌≡◌, ℕ, List, [], ◌∷◌, Some, None, �
 use Rattle.iso_ops.specs.declared.settings.Unknown.{Unknown}
 use Rattle.iso_ops.specs.declared.settings.Unknown.TheVariants as on_unknown
 use Rattle.iso_model.specs.Terms.Trees.{Tree}
+use Rattle.iso_model.specs.Search.Clashes.{EachEnters}
 use Rattle.iso_model.specs.Search.Databases as databases
 use Rattle.iso_model.specs.Search.Databases.{Key, key_of, clauses_at}
 use Rattle.iso_model.specs.Search.BuiltIns.{built_in}
@@ -14,11 +15,13 @@ use Rattle.iso_search.specs.declared.calls.Called.TheVariants as call
 use Rattle.iso_program.specs.Leaving.{Leaving}
 use Rattle.iso_search_core.specs.GoalKinds.{IsUser, IsBuiltIn}
 
--- These clauses are left for a call of this value: those of the procedure with this key, but for some that miss it.
+-- These clauses are left for a call of this value: those of the procedure with this key, but for some that miss it. It
+-- may enter each of them, as first arguments show.
 pub record ClausesFor (w : World) (k : Key) (t : Tree) (cs : List databases.Clause) : Type 0 where
   pub whole : List databases.Clause
   pub found : clauses_at w.database.procedures k ≡ Some whole
   pub skips : Skips t cs whole
+  pub enter : EachEnters t cs
 
 -- no procedure has this key, and the flag unknown says this
 abbrev pub IsUnknown : World → Key → Unknown → Type 0

@@ -4,10 +4,11 @@ use Rattle.std.specs.List.{slice_get}
 use Rattle.iso_model.specs.Terms.Trees.{Tree, Variable}
 use Rattle.iso_model.specs.Terms.Variables.{variables}
 use Rattle.iso_model.specs.Terms.Substitutions.{Subst}
-use Rattle.iso_model.specs.Search.RunLaws.Sameness.{Same, SameList, SameStack, flat, IsTwice}
+use Rattle.iso_model.specs.Search.RunLaws.Sameness.{Same, SameList, SameStack, IsTwice}
 use Rattle.iso_model.specs.Search.RunLaws.Thinness.{ThinStack}
 use Rattle.iso_model.proofs.Search.RunLaws.Likeness.{Alike}
 use Rattle.iso_model.specs.Terms.TermOf.{term_of}
+use Rattle.iso_model.specs.Search.Clashes.{EachEnters}
 use Rattle.iso_model.specs.Search.Databases.{Clause}
 use Rattle.iso_model.specs.Search.Walker.{query_size, State, World, Alternative, Member, Goal, CutTo, Fail, AsIs, Clauses, pushed, with_others}
 use Rattle.iso_model.specs.Search.Bodies.{Body}
@@ -70,7 +71,7 @@ phase_of (now.Spent limit) = engines.Spent limit
 -- Under the two substitutions the goals of the state and the variables of its query have the same values, and so have
 -- the numbers that aren't used.
 pub record SameUnder (own u : Subst) (s : State) : Type 0 where
-  pub goals : SameList own u (flat s.list) (flat s.list)
+  pub goals : SameList own u s.list s.list
   pub shown : map own (variables s.query) ≡ map u (variables s.query)
   pub beyond : (n : ℕ) → s.next ≤ n → own n ≡ u n
   pub twice : IsTwice own
@@ -176,11 +177,13 @@ module _ {S L W M K P C N B O : Type 0} (g : Ghosts S W M) (l : lists.Ghosts L S
     pub ahead : IsAhead e (record s { list = behind }) place
 
   -- The engine, in this state, is about to try the first of these clauses for a call, before the list from the place on.
+  -- The call may enter each of them, as first arguments show.
   pub record Calls (e : Search S L W M K P C N B O) (attempt : Attempt C) (rest : P) (s : State) (call : Tree) (c : Clause) (cs : List Clause) (behind : List Member) : Type 0 where
     pub ahead : IsAhead e (record s { list = behind }) rest
     pub space : s.next + numbers_a_step * (e.steps + 1) ≤ most_numbers
     pub is_for : l.call (g.present e.store) e.lists (l.whole e.lists) attempt.call call
     pub clauses : leaves_of e attempt.clause attempt.later (c ∷ cs)
+    pub enter : EachEnters call (c ∷ cs)
 
   -- The engine, in this state, went back to its newest choice, which is still there, and stands for this alternative.
   pub record WentBack (e : Search S L W M K P C N B O) (c : kept.Choice W M K P C) (s : State) (a : Alternative) (below : List Alternative) : Type 0 where

@@ -1,8 +1,9 @@
 -- What the engine says of its pauses: a full heap comes only where its store is full, and each term that it gives is
 -- well formed. Of full members more is said of the search.
-use Rattle.std.specs.Prelude.{◌≤◌, length, Result, Ok, Err}
+use Rattle.std.specs.Prelude.{◌≤◌, ℕ, length, Result, Ok, Err}
 use Rattle.iso_model.specs.Search.Walker.{State}
-use Rattle.iso_model.specs.Search.Runs.{ComesAbove}
+use Rattle.iso_model.specs.Search.Runs.{ComesAbove, ComesOver}
+use Rattle.iso_model.specs.Search.RunLaws.Spans.{ComesBeyond}
 use Rattle.iso_model.specs.Search.Engines.{GivesTerms}
 use Rattle.iso_model.specs.declared.pauses.Pause.{Pause}
 use Rattle.iso_model.specs.declared.pauses.Pause.TheVariants as pause
@@ -43,6 +44,10 @@ abbrev pub IsWithin : {S L W M K P C N B O : Type 0} → Search S L W M K P C N 
 IsWithin e = length e.choices.items ≤ e.limit
 
 -- ---- full members, said of the search
+
+-- the search comes to more alternatives than this, and to a state that spans more
+abbrev pub ComesFull : ℕ → State → Type 0
+ComesFull most s = ComesOver most s × ComesBeyond most s
 
 -- a fact that holds where the members are full
 abbrev pub WhereFull : Type 0 → Pause → Type 0

@@ -1,7 +1,8 @@
 //! What engines differ in: how what comes first of a list is run, and how clauses are tried for a call.
 ghost use Rattle.std.specs.Prelude.{◌≡◌, ℕ, None, Err, IfOk, OnErr};
 ghost use Rattle.iso_model.specs.Search.Walker.{State};
-ghost use Rattle.iso_model.specs.Search.Runs.{ComesOver, Quiet};
+ghost use Rattle.iso_model.specs.Search.Runs.{Quiet};
+ghost use Rattle.iso_search.specs.Limits.{ComesFull};
 ghost use Rattle.iso_search.specs.EngineStates.{Represents, Refused, weight};
 ghost use Rattle.iso_search.specs.Moved.{Moved};
 ghost use Rattle.iso_search.specs.Nexts.{ComesNext, FallsNext, WentOrFull};
@@ -64,8 +65,8 @@ pub trait Calls<S: Store + Drop>: Lists<S> {
         ensures full { result ≡ Err StoreFault.Full → S.full search.new.store }
         ensures stays { Stays S.Store search.old search.new };
 
-    /// They may be full where the search comes to more alternatives.
-    ghost spans: { (limit : ℕ) (s : State) → ComesOver limit s → over limit s };
+    /// They may be full where the search comes to more alternatives, and to a state that spans more.
+    ghost spans: { (limit : ℕ) (s : State) → ComesFull limit s → over limit s };
     /// They may be full where they may be ahead, before any event.
     ghost leads: { (limit : ℕ) (s t : State) → Quiet s t → over limit t → over limit s };
 }

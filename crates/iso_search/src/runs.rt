@@ -2,7 +2,7 @@
 //! 7.7.7).
 ghost use Rattle.std.specs.Prelude.{◌≡◌, ◌≢◌, ◌-◌};
 ghost use Rattle.iso_model.specs.Search.Walker.{State};
-ghost use Rattle.iso_model.specs.Search.Runs.{ComesOver};
+ghost use Rattle.iso_search.specs.Limits.{ComesFull};
 ghost use Rattle.iso_store_core.specs.Presents.{meaning};
 ghost use Rattle.iso_search_core.specs.GoalKinds.{IsBuiltIn};
 
@@ -40,7 +40,7 @@ impl<S: Store + Drop, L: Lists<S>> Search<S, L> {
     pub(crate) fn run_goal(&mut self, next: NextGoal<S::Word, L::Place>) -> Result<Move, StoreFault>
         requires next { IsGoalNext S.Store L.Lists self.old next }
         requires stands { (s : State) × Represents S.Store L.Lists self.old s }
-        ensures { Moved S.Store L.Lists (ComesOver self.old.limit) self.old result self.new }
+        ensures { Moved S.Store L.Lists (ComesFull self.old.limit) self.old result self.new }
     {
         if self.steps == 0 {
             self.clear();
@@ -72,7 +72,7 @@ impl<S: Store + Drop, L: Lists<S>> Search<S, L> {
         requires steps { self.old.steps ≢ 0 }
         requires built_in { IsBuiltIn (meaning (S.present self.old.store) goal) built_in }
         requires stands { (s : State) × Represents S.Store L.Lists self.old s }
-        ensures { Moved S.Store L.Lists (ComesOver self.old.limit) self.old result self.new }
+        ensures { Moved S.Store L.Lists (ComesFull self.old.limit) self.old result self.new }
     {
         if let BuiltIn::Fail = built_in {
             return Ok(self.goal_fails());
@@ -103,7 +103,7 @@ impl<S: Store + Drop, L: Lists<S>> Search<S, L> {
             × HasReplied S.Store L.Lists e self.old goal rest b replied × ((s : State) × Represents S.Store L.Lists e s) }
         ensures { (e : engines.Search S L S.Word S.Mark L.Kept L.Place L.Call L.Next L.Body L.Own) (b : BuiltIn)
             (s : State) → HasReplied S.Store L.Lists e self.old goal rest b replied
-            → Represents S.Store L.Lists e s → Moved S.Store L.Lists (ComesOver e.limit) e result self.new }
+            → Represents S.Store L.Lists e s → Moved S.Store L.Lists (ComesFull e.limit) e result self.new }
     {
         match replied {
             Replied::GoesOn => {

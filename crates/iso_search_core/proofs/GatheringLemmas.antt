@@ -158,7 +158,7 @@ module _ (f : walker.Left → walker.Left) (R : Change) (k : Together f R) where
       (record { head = has.head; body = has.body; key = has.key; key_is = has.key_is; user = has.user; clauses = has.clauses; is = ap f has.is ∙ k.offered _ _; are = has.are })
   left_changed {W = W} {C = C} leaves calls p a (left.Clauses attempt) y h has =
       subst (λ (z : Left W C). HasLeft leaves calls p z (record a { left = f a.left })) (sym h)
-      (record { call = has.call; clauses = has.clauses; is_for = has.is_for; left = ap f has.left ∙ k.clauses _ _; are = has.are })
+      (record { call = has.call; clauses = has.clauses; is_for = has.is_for; left = ap f has.left ∙ k.clauses _ _; are = has.are; enter = has.enter })
 
   module _ {S L W M K P C N B O : Type 0} (l : Ghosts L S K P C N B O W M) (older : M → M → Type 0) where
     below_changed : (x c d : kept.Choice W M K P C) → ChoiceChanges R c d → IsBelow l older x c → IsBelow l older x d

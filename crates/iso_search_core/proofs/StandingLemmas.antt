@@ -90,7 +90,7 @@ left_on p a keeps on (left.Grouping by pairs) has = record { witness = has.witne
 left_on p a keeps on (left.Groups by groups) has = record { witness = has.witness; result = has.result; is = has.is; each = has.each; some = has.some }
 left_on p a keeps on (left.Offered goal offers) has = record { holds = has.holds; made = has.made; is = has.is; each = has.each; some = has.some }
 left_on p a keeps on (left.Shown shown) has = record { head = has.head; body = has.body; key = has.key; key_is = has.key_is; user = has.user; clauses = has.clauses; is = has.is; are = keeps shown.clause shown.later has.clauses has.are }
-left_on p a keeps on (left.Clauses attempt) has = record { call = has.call; clauses = has.clauses; is_for = on attempt.call has.call has.is_for; left = has.left; are = keeps attempt.clause attempt.later has.clauses has.are }
+left_on p a keeps on (left.Clauses attempt) has = record { call = has.call; clauses = has.clauses; is_for = on attempt.call has.call has.is_for; left = has.left; are = keeps attempt.clause attempt.later has.clauses has.are; enter = has.enter }
 left_on p a keeps on x has = has
 
 module _ {S L W M K P C N B O : Type 0} (l : Ghosts L S K P C N B O W M) where

@@ -6,6 +6,7 @@ use Rattle.iso_model.specs.Terms.Arguments.{arity, argument}
 use Rattle.iso_model.specs.Terms.Variables.{variables}
 use Rattle.iso_model.specs.Terms.Lists.{list_of}
 use Rattle.iso_model.specs.Terms.Substitutions.{Subst}
+use Rattle.iso_model.specs.Search.Clashes.{EachEnters}
 use Rattle.iso_model.specs.Search.Databases.{Clause, Key, key_of}
 use Rattle.iso_model.specs.Search.BuiltIns.{built_in}
 use Rattle.iso_model.specs.Search.Walker.{State, Member, Fail, Raise, Alternative, AsIs, Again, Clauses, Catching, Gathering, Offered, Groups, idle}
@@ -86,13 +87,14 @@ pub record GoesOn {W : Type 0} (p : Present W) (query : List W) (s : State) : Ty
 -- What is left to be tried at an alternative, but for the list behind it: clauses are left by a number and a view, and
 -- a call stands for its goal.
 module _ {W C : Type 0} (leaves : Leaving) (calls : C → Tree → Type 0) (p : Present W) where
-  -- these clauses, for this call
+  -- these clauses, for this call, which may enter each of them, as first arguments show
   pub record HasClauses (attempt : Attempt C) (a : Alternative) : Type 0 where
     pub call : Tree
     pub clauses : List Clause
     pub is_for : calls attempt.call call
     pub left : a.left ≡ Clauses call clauses
     pub are : leaves attempt.clause attempt.later clauses
+    pub enter : EachEnters call clauses
 
   -- the entry of the catch whose goal this is
   pub record HasCatch (goal : W) (a : Alternative) : Type 0 where

@@ -6,7 +6,7 @@ ghost use Rattle.iso_model.specs.Terms.Substitutions.{Subst};
 ghost use Rattle.iso_model.specs.Search.Bodies as bodies;
 ghost use Rattle.iso_model.specs.Search.Bodies.{Run, map_body};
 ghost use Rattle.iso_model.specs.Search.Walker.{Member, Goal, body_size};
-ghost use Rattle.iso_model.specs.Search.RunLaws.Sameness.{SameList, flat};
+ghost use Rattle.iso_model.specs.Search.RunLaws.Sameness.{SameList};
 ghost use Rattle.iso_store_core.specs.Presents.{Present, Grows, Holds, KeepsWords, meaning};
 ghost use Rattle.iso_store_core.specs.Retaining.{CountsCells, Retains, RetainsAll, Takes};
 ghost use Rattle.iso_prep.specs.Classes.{goals_of};
@@ -199,7 +199,7 @@ pub trait Lists<S: Store>: Drop {
     ghost body_words: { (p q : Present S.Word) (l : Self) (i : Self.Body) (b : bodies.Body) → KeepsWords p q → body p l i b → body q l i b };
     // where words have their values under a substitution, goals have them
     ghost values: { (p q : Present S.Word) (u : Subst) (l : Self) (k : Self.Kept) (i : Self.Place) (ms : List Member) → HasValues p q u
-        → list p l k i ms → SameList q.substitution u (flat ms) (flat ms) };
+        → list p l k i ms → SameList q.substitution u ms ms };
     // what is kept of less is kept of more
     ghost more: { (p : Present S.Word) (l : Self) (j k : Self.Kept) (i : Self.Place) (ms : List Member) → below j k → list p l j i ms → list p l k i ms };
     // as much keeps as much

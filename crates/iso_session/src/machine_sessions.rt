@@ -3,6 +3,7 @@ ghost use Rattle.std.specs.Prelude.{◌≡◌, IfOk, []};
 ghost use Rattle.iso_model.specs.Session.Beginnings.{SessionWrites, WalkStops};
 ghost use Rattle.iso_model.specs.Search.Engines.{Ready, KeepsLimits, MayMeet};
 ghost use Rattle.iso_model.specs.Search.Runs.{ComesAbove};
+ghost use Rattle.iso_model.specs.Search.RunLaws.Spans.{ComesBeyond};
 ghost use Rattle.iso_model.specs.Session.Sessions.{session_script};
 ghost use Rattle.iso_model.specs.Search.Walker.{idle, first_world};
 ghost use Rattle.iso_session_core.specs.Progress.{outcome_of};
@@ -23,7 +24,7 @@ pub(crate) fn machine_session<W: Write>(
     out: &mut W,
 ) -> Result<Ended, Fault>
     ensures { SessionWrites text.now queries.now limits.now.budget
-        (WalkStops limits.now.budget (ComesAbove limits.now.cells) (λ s. Unit {0})
+        (WalkStops limits.now.budget (ComesAbove limits.now.cells) (ComesBeyond limits.now.frames)
         (session_script text.now queries.now limits.now.budget))
         (W.contents out.old) (W.contents out.new) (outcome_of result) }
 {
@@ -37,7 +38,8 @@ pub(crate) fn machine_session<W: Write>(
 pub fn machine_engine(alloc: Global, limits: &Limits) -> Result<Machine<Heap>, NoMemory>
     ensures ready { IfOk result (λ engine. ⟦<Machine<Heap> as Engine>⟧.phase engine ≡ Ready) }
     ensures new { IfOk result (λ engine. ⟦<Machine<Heap> as Engine>⟧.stands_for engine (idle first_world)) }
-    ensures limits { IfOk result (λ engine. KeepsLimits (MayMeet (ComesAbove limits.now.cells) (λ s. Unit {0}))
+    ensures limits { IfOk result (λ engine. KeepsLimits
+        (MayMeet (ComesAbove limits.now.cells) (ComesBeyond limits.now.frames))
         (MayMeet (⟦<Machine<Heap> as Engine>⟧.heap_pieces engine) (⟦<Machine<Heap> as Engine>⟧.frames_pieces engine))) }
 {
     let store = Heap::new(alloc, limits.cells)?;

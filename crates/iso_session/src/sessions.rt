@@ -16,9 +16,11 @@ use std::io::Write;
 /// A session with the engine of this name, within these limits. The bytes written are those of the standard's search.
 /// Where heap, frames or memory end it, they are a beginning of them and the line that says which. The heap ends it
 /// only where the search comes to a state twice whose load is above the cells; the frames end it with the plain engine
-/// only where it comes to more alternatives than there are frames. The error: a write of at least one byte answered an
-/// error or took 0 bytes; what was written is a beginning. Where the text is definite clauses and the queries are
-/// conjunctions of user goals, the clauses prove each answer, and those before an `end: no more` are all.
+/// only where it comes to more alternatives than there are frames, and with the machine only where it comes to a state
+/// that spans more: three for each member and each alternative, of those that count, and three more. The error: a write
+/// of at least one byte answered an error or took 0 bytes; what was written is a beginning. Where the text is definite
+/// clauses and the queries are conjunctions of user goals, the clauses prove each answer, and those before an
+/// `end: no more` are all.
 pub fn session<W: Write>(
     alloc: Global,
     text: &str,

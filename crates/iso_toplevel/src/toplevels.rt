@@ -1,6 +1,7 @@
 //! Toplevels with the engines that the program has.
 ghost use Rattle.std.specs.Prelude.{◌≡◌, ℕ, List, Some};
 ghost use Rattle.iso_model.specs.Search.Runs.{ComesAbove, ComesOver};
+ghost use Rattle.iso_model.specs.Search.RunLaws.Spans.{ComesBeyond};
 ghost use Rattle.iso_session.specs.Pieces.{frames_pieces};
 ghost use Rattle.iso_toplevel_core.specs.Dialogues.{toplevel_script};
 ghost use Rattle.iso_toplevel_core.specs.Progress.{ToplevelDoes, ToplevelWalkStops};
@@ -47,7 +48,7 @@ fn machine_toplevel<R: BufRead, W: Write>(
     out: &mut W,
 ) -> Result<Ended, Fault>
     ensures { (xs : List ℕ) → R.remaining input.old ≡ Some xs → ToplevelDoes (toplevel_script waits text.now xs limits.now.budget)
-        (ToplevelWalkStops waits limits.now.budget (ComesAbove limits.now.cells) (λ s. Unit {0})
+        (ToplevelWalkStops waits limits.now.budget (ComesAbove limits.now.cells) (ComesBeyond limits.now.frames)
         (toplevel_script waits text.now xs limits.now.budget))
         (W.contents out.old) (W.contents out.new) result }
 {
@@ -66,8 +67,9 @@ fn machine_toplevel<R: BufRead, W: Write>(
 /// behind each answer whether the query goes on. The bytes written are those of the standard's search. Where heap,
 /// frames or memory end it, they are a beginning of them and the line that says which. The heap ends it only where the
 /// search comes to a state twice whose load is above the cells; the frames end it with the plain engine only where it
-/// comes to more alternatives than there are frames. The errors: a write of at least one byte answered an error or took
-/// 0 bytes, or the input can't be read; what was written is a beginning.
+/// comes to more alternatives than there are frames, and with the machine only where it comes to a state that spans
+/// more. The errors: a write of at least one byte answered an error or took 0 bytes, or the input can't be read; what was
+/// written is a beginning.
 pub fn toplevel<R: BufRead, W: Write>(
     alloc: Global,
     text: &str,

@@ -10,11 +10,12 @@ pub mod PartValues
 pub mod GroupValues
 pub mod Values
 pub mod SameSteps
+pub mod Opening
 pub mod SameRuns
 pub mod SameLaws
 pub mod ThinSteps
 pub mod ThinRuns
 pub mod Likeness
 pub mod SpanLemmas
-pub mod GroupLemmas
+pub mod AlikeSpans
 pub mod CountLemmas

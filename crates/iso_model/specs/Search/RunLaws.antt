@@ -6,7 +6,6 @@ pub mod Marks
 pub mod Sameness
 pub mod Thinness
 pub mod Spans
-pub mod Groups
 pub mod Counts
 use Rattle.std.specs.Prelude.{◌≡◌, ◌≤◌, ℕ, Bool}
 use Rattle.iso_model.specs.Search.Walker.{State, World, Event, Ending, Goes, Gives, Ends, step, started}
@@ -40,8 +39,8 @@ EventsBeginTheRun = (s at t : State) (e : Event) → Quiet s at → step at ≡ 
 abbrev pub EndingsAreTheRun : Type 0
 EndingsAreTheRun = (s at : State) (e : Ending) (w : World) → Quiet s at → step at ≡ Ends e w → run_of s ≡ Stops e w
 
--- States that are the same have one run: the marks that nothing reads, how conjunctions are grouped, and how much less
--- the first has built have no part in it.
+-- States that are the same have one run: the marks that nothing reads, and how much less the first has built, have no
+-- part in it.
 abbrev pub SameStatesHaveOneRun : Type 0
 SameStatesHaveOneRun = (s t : State) → Same s t → run_of s ≡ run_of t
 

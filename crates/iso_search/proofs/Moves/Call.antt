@@ -34,8 +34,9 @@ module _ {S L W M K P C N B O : Type 0} (g : Ghosts S W M) (l : lists.Ghosts L S
   calls_later e attempt rest s call c [] behind store choices clause later all top t next same keeps texts gains = absurd (cc next.is)
   calls_later e attempt rest s call c (d ∷ cs) behind store choices clause later all top t next same keeps texts gains = record {
     ahead = ahead_left g l e (record s { list = behind }) rest store choices (left.Clauses (record attempt { clause = clause; later = later })) (Clauses call (d ∷ cs)) all top t.ahead
-        (record { call = call; clauses = d ∷ cs; is_for = t.is_for; left = refl; are = next }) t.space same keeps texts gains;
+        (record { call = call; clauses = d ∷ cs; is_for = t.is_for; left = refl; are = next; enter = t.enter.1 }) t.space same keeps texts gains;
     space = t.space;
     is_for = subst (λ (p : Present W). l.call p e.lists (l.whole e.lists) attempt.call call) (sym same) t.is_for;
     clauses = left_on l texts {d = e.db} attempt.clause attempt.later (c ∷ d ∷ cs) t.clauses;
+    enter = t.enter;
   }

@@ -15,8 +15,8 @@ use Rattle.iso_model.specs.Terms.Variables.{variable_count}
 use Rattle.iso_model.specs.Search.Bodies.{Run, one}
 use Rattle.iso_model.specs.Search.Walker.{State, Member, Goal, Raise, Alternative, Left, Goes, met, meets, step, Meet}
 use Rattle.iso_model.proofs.Search.RunLaws.Quiets.{quiet_trans}
-use Rattle.iso_model.specs.Search.RunLaws.Sameness.{same_goal, Same, going, SameStack, no_alternative, same_alternative, Around, IsOwnLeft, IsValue}
-use Rattle.iso_model.proofs.Search.RunLaws.SameSteps.{shortened_same, list_same}
+use Rattle.iso_model.specs.Search.RunLaws.Sameness.{same_goal, Same, SameStack, no_alternative, same_alternative, Around, IsOwnLeft, IsValue}
+use Rattle.iso_model.proofs.Search.RunLaws.SameSteps.{shortened_same, list_same, same_lists}
 use Rattle.iso_model.proofs.Search.RunLaws.SameLaws.{same_beside}
 use Rattle.iso_model.proofs.Search.RunLaws.Likeness.{onward_alike, alike_on}
 use Rattle.iso_model.proofs.Search.CallLemmas.{unify_found, unify_none}
@@ -40,7 +40,7 @@ left_own a below (same_alternative {a = d} agree next built list left own other 
 -- a goal of the same value comes first
 same_value : (s : State) (a b : Tree) (m n : ℕ) (rest : List Member) → Around s s → apply s.subst a ≡ apply s.subst b → Same (record s { list = Goal (Run a) m ∷ rest }) (record s { list = Goal (Run b) n ∷ rest })
 same_value s a b m n rest at value =
-    going (record { agree = at.agree; next = at.next; beside = record { stack = at.beside.stack; world = refl; steps = refl; query = omega arith; built = omega arith } }) (same_goal value (list_same rest))
+    same_lists (record { agree = at.agree; next = at.next; beside = record { stack = at.beside.stack; world = refl; steps = refl; query = omega arith; built = omega arith } }) (same_goal value (list_same rest))
 
 module _ {S L W M K P C N B O : Type 0} (g : Ghosts S W M) (l : lists.Ghosts L S K P C N B O W M) where
   module _ (e : Search S L W M K P C N B O) (s : State) (r : Represents g l e s) (ball : Tree) (behind : List Member) (list : (r.own).list ≡ Raise ball ∷ behind) (height : ℕ) (way : GoesTo ball behind r.own height) where

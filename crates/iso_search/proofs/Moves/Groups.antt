@@ -8,7 +8,7 @@ use Rattle.iso_model.specs.Search.Bodies.{Body, body_term, converted}
 use Rattle.iso_model.specs.Search.BuiltIns.{Gathers, reply}
 use Rattle.iso_model.specs.Search.Groups.{stripped, pair}
 use Rattle.iso_model.specs.Search.Replies.{Grouping, InGroups}
-use Rattle.iso_model.specs.Search.Runs.{ComesOver}
+use Rattle.iso_search.specs.Limits.{ComesFull}
 use Rattle.iso_model.specs.Search.Walker.{State, Goal, Gather, Gathering, Goes, pushed, step, with_goal, with_template}
 use Rattle.iso_model.specs.declared.built_ins.BuiltIn.{BuiltIn}
 use Rattle.iso_store_core.specs.Presents.{meaning, Present}
@@ -157,5 +157,5 @@ module _ {S L W M K P C N B O : Type 0} (g : Ghosts S W M) (l : lists.Ghosts L S
       pub groups_stop : (new : Search S L W M K P C N B O) → RefusedBy new (goal_grouping sorts goal) → Refused g l new s
       groups_stop new was = stops_by new (subst (λ (x : Grouping). RefusedBy new x) grouping_same was)
 
-      pub groups_over : mid.limit ≤ length mid.choices.items → ComesOver e.limit s
+      pub groups_over : mid.limit ≤ length mid.choices.items → ComesFull e.limit s
       groups_over full = over_by g l took s r walker_groups groups_to refl full

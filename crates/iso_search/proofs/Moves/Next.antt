@@ -5,7 +5,9 @@ use Rattle.iso_model.proofs.Search.RunLaws.Likeness.{Alike, alike_fewer}
 use Rattle.iso_model.proofs.Search.CallLemmas.{clause_keeps}
 use Rattle.iso_model.specs.Search.Walker.{State, Member, tried, with_others}
 use Rattle.iso_model.specs.Search.Engines.{IsAwake}
-use Rattle.iso_model.specs.Search.Runs.{Quiet, ComesOver}
+use Rattle.iso_model.specs.Search.Runs.{Quiet}
+use Rattle.iso_search.specs.Limits.{ComesFull}
+use Rattle.iso_search.proofs.OverLemmas.{comes_beyond}
 use Rattle.iso_model.specs.declared.limit.Limit.TheVariants as limit
 use Rattle.iso_store_core.specs.Presents.{meaning}
 use Rattle.iso_store_core.specs.declared.stores.Store.{Ghosts}
@@ -83,6 +85,7 @@ module _ {S L W M K P C N B O : Type 0} (g : Ghosts S W M) (l : lists.Ghosts L S
             space = (let room = ahead.goes.room in let all = ahead.steps in omega (arith, room, all, many));
             is_for = is_for;
             clauses = user.left;
+            enter = user.clauses.enter;
           }
 
       pub value_called : (new : Search S L W M K P C N B O) (m : Move) → WasTried g l m new taken tries
@@ -97,15 +100,18 @@ module _ {S L W M K P C N B O : Type 0} (g : Ghosts S W M) (l : lists.Ghosts L S
       value_refused new (inl remains) = refuses_here g l new own s same remains
       value_refused new (inr remains) = refuses_at g l new s tries on.0 on.1 on.2 remains
 
-      -- a call that may make no choice any more: the search comes to more alternatives than there may be
-      pub value_over : (e.limit ≤ length e.choices.items) × (0 < length user.others) → ComesOver e.limit s
+      -- a call that may make no choice any more: the search comes to more alternatives than there may be, and spans
+      -- more
+      pub value_over : (e.limit ≤ length e.choices.items) × (0 < length user.others) → ComesFull e.limit s
       value_over full =
           let many = choices_length l a.at.ahead.choices in
           let stack = ap length tries_stack in
           let longer = one_more call user.others behind taken full.1 in
           let fewer = alike_fewer tries on.0 on.2 in
-          let over = full.0 in
-          record { at = on.0; quiet = on.1; holds = omega (arith, many, stack, longer, fewer, over) }
+          let over = full.0 in (
+            record { at = on.0; quiet = on.1; holds = omega (arith, many, stack, longer, fewer, over) },
+            comes_beyond g l e own s e.limit a.at.ahead.choices same (omega (arith, many, over)),
+          )
 
   -- the same of a goal that a word stands for
   module _ (e : Search S L W M K P C N B O) (s : State) (w : W) (rest : P) (r : Represents g l e s)
@@ -136,5 +142,5 @@ module _ {S L W M K P C N B O : Type 0} (g : Ghosts S W M) (l : lists.Ghosts L S
       pub next_refused : (new : Search S L W M K P C N B O) → WasRefused g l new less word_tries → Refused g l new s
       next_refused = value_refused e own s word_call rest r.same (value_of g l a) more clause later user
 
-      pub next_over : (e.limit ≤ length e.choices.items) × (0 < length user.others) → ComesOver e.limit s
+      pub next_over : (e.limit ≤ length e.choices.items) × (0 < length user.others) → ComesFull e.limit s
       next_over = value_over e own s word_call rest r.same (value_of g l a) more clause later user

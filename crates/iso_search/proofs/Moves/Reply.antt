@@ -7,7 +7,9 @@ use Rattle.iso_model.specs.Search.RunLaws.Sameness.{Around, IsValue}
 use Rattle.iso_model.specs.declared.kinds.AtomPart.{AtomPart}
 use Rattle.iso_model.specs.Search.Bodies.{Body, body_term, converted, map_body, Run}
 use Rattle.iso_model.specs.declared.built_ins.BuiltIn.{BuiltIn}
-use Rattle.iso_model.specs.Search.Runs.{ComesOver, Finishes, Quiet}
+use Rattle.iso_model.specs.Search.Runs.{Finishes, Quiet}
+use Rattle.iso_search.specs.Limits.{ComesFull}
+use Rattle.iso_search.proofs.OverLemmas.{comes_beyond}
 use Rattle.iso_search.specs.Moved.{FallsFrom, Moved}
 use Rattle.iso_store_core.specs.declared.stores.Store.{Ghosts}
 use Rattle.iso_model.specs.Search.Engines.{IsAwake}
@@ -149,7 +151,7 @@ module _ {S L W M K P C N B O : Type 0} (g : Ghosts S W M) (l : lists.Ghosts L S
     full_now new p was = rw was.0 (spent_stands g l limit.Frames new.now new s (ap phase_of was.1) (stops_here g l new o s r.same was.2), ap phase_of was.1)
 
     -- no choice may come any more, and the search comes to one
-    pub over_by : (v : State) → step o ≡ Goes v → length v.stack ≡ suc (length o.stack) → mid.limit ≤ length mid.choices.items → ComesOver e.limit s
+    pub over_by : (v : State) → step o ≡ Goes v → length v.stack ≡ suc (length o.stack) → mid.limit ≤ length mid.choices.items → ComesFull e.limit s
     over_by v goes_to longer full =
         let many = choices_length l r.engine.choices in
         comes_over g l e s r v e.limit goes_to longer (let limited = within_same full in omega (arith, many, limited))
@@ -255,7 +257,7 @@ module _ {S L W M K P C N B O : Type 0} (g : Ghosts S W M) (l : lists.Ghosts L S
       refute_stops is new (inl remains) = refuses_before g l new o refuted s r.same (refuted_step is) remains.0 remains.1
       refute_stops is new (inr remains) = refuses g l new o refuted s r.same (refuted_step is) remains
 
-      pub refute_over : reply b t ≡ Refutes c → mid.limit ≤ length mid.choices.items → ComesOver e.limit s
+      pub refute_over : reply b t ≡ Refutes c → mid.limit ≤ length mid.choices.items → ComesFull e.limit s
       refute_over is full = over_by refuted (refuted_step is) refl full
 
     -- ---- it succeeds again and again
@@ -277,7 +279,7 @@ module _ {S L W M K P C N B O : Type 0} (g : Ghosts S W M) (l : lists.Ghosts L S
       pub repeat_stops : (new : Search S L W M K P C N B O) → Remains g l new repeating → Refused g l new s
       repeat_stops new remains = refuses_here g l new o s r.same remains
 
-      pub repeat_over : mid.limit ≤ length mid.choices.items → ComesOver e.limit s
+      pub repeat_over : mid.limit ≤ length mid.choices.items → ComesFull e.limit s
       repeat_over full = over_by (pushed repeating.list Again repeating) repeat_step refl full
 
     -- ---- inside a catch
@@ -351,7 +353,7 @@ module _ {S L W M K P C N B O : Type 0} (g : Ghosts S W M) (l : lists.Ghosts L S
             let Q : ℕ → Type 0 = λ n. WasRefused g l new after (record (pushed after.list (Catching (catcher_of (g.present mid.store) w) (recovery_of (g.present mid.store) w)) after) { built = n }) in
             stops_inside 0 (Raise ball ∷ Leave (length o.stack) ∷ a.at.behind) (subst P (sym none) throws_to) 0 (omega arith) new (subst Q (sym none) was)
 
-        pub throw_inside_over : mid.limit ≤ length mid.choices.items → ComesOver e.limit s
+        pub throw_inside_over : mid.limit ≤ length mid.choices.items → ComesFull e.limit s
         throw_inside_over = over_by thrown_inside throws_to refl
 
       -- ---- a goal
@@ -397,7 +399,7 @@ module _ {S L W M K P C N B O : Type 0} (g : Ghosts S W M) (l : lists.Ghosts L S
             stops_inside (size (body_term c)) (Goal c (suc (length o.stack)) ∷ Leave (length o.stack) ∷ a.at.behind) calls_to (conversion_cells (inside_of (g.present mid.store) w))
             (converted_cells (inside_of (g.present mid.store) w) c inside_converted)
 
-        pub call_inside_over : mid.limit ≤ length mid.choices.items → ComesOver e.limit s
+        pub call_inside_over : mid.limit ≤ length mid.choices.items → ComesFull e.limit s
         call_inside_over = over_by called_inside calls_to refl
 
     -- ---- for all of its solutions
@@ -460,7 +462,7 @@ module _ {S L W M K P C N B O : Type 0} (g : Ghosts S W M) (l : lists.Ghosts L S
             fits_more g (g.present new.store) 0 (record o { built = o.built + conversion_cells (solved_of (g.present mid.store) w) }) walker_finds refl (omega (arith, few)) remains.1,
           )
 
-      pub find_over : mid.limit ≤ length mid.choices.items → ComesOver e.limit s
+      pub find_over : mid.limit ≤ length mid.choices.items → ComesFull e.limit s
       find_over full = over_by walker_finds finds_to refl full
 
     -- ---- it asks what is settled in the world as it is
@@ -496,7 +498,7 @@ module _ {S L W M K P C N B O : Type 0} (g : Ghosts S W M) (l : lists.Ghosts L S
         fits = fits_on g (g.present new.store) o walker_asks s asks_to r.same kept.2;
       }
 
-      pub asked_over : (mid.limit ≤ length mid.choices.items) × (length walker_asks.stack ≡ suc (length asker.stack)) → ComesOver e.limit s
+      pub asked_over : (mid.limit ≤ length mid.choices.items) × (length walker_asks.stack ≡ suc (length asker.stack)) → ComesFull e.limit s
       asked_over full = over_by walker_asks asks_to full.1 full.0
 
     -- ---- what it comes to rests on the operators and the flags, or it takes atoms apart
@@ -567,14 +569,16 @@ module _ {S L W M K P C N B O : Type 0} (g : Ghosts S W M) (l : lists.Ghosts L S
         by_choices (inl kept) = stops_here g l new o s r.same kept
         by_choices (inr kept) = stops_bare g l new o s r.same kept
 
-      pub store_over : (mid.limit ≤ length mid.choices.items) × GainsAlternative storing walker_stores → ComesOver e.limit s
+      pub store_over : (mid.limit ≤ length mid.choices.items) × GainsAlternative storing walker_stores → ComesFull e.limit s
       store_over full =
           let on = stores_thin full.1.own walker_stores full.1.thin refl in
           let many = choices_length l r.engine.choices in
           let longer = full.1.longer in
           let fewer = alike_fewer (settled full.1.own storing.list storing) on.0 on.2 in
-          let within = within_same full.0 in
-          record { at = on.0; quiet = on.1; holds = omega (arith, many, longer, fewer, within) }
+          let within = within_same full.0 in (
+            record { at = on.0; quiet = on.1; holds = omega (arith, many, longer, fewer, within) },
+            comes_beyond g l e r.own s e.limit r.engine.choices r.same (omega (arith, many, within)),
+          )
 
     -- ---- it writes
 

@@ -8,7 +8,7 @@ use Rattle.iso_search.specs.declared.search.Search.{Search}
 use Rattle.iso_model.specs.Terms.Trees.{Tree}
 use Rattle.iso_model.specs.Terms.Variables.{variables}
 use Rattle.iso_model.specs.Search.Walker.{State, World, Alternative, Event, Ending, Goes, Gives, Ends, idle, step}
-use Rattle.iso_model.specs.Search.Runs.{Quiet, here, Comes, Finishes, ComesOver}
+use Rattle.iso_model.specs.Search.Runs.{Quiet, here, Comes, Finishes}
 use Rattle.iso_model.proofs.Search.RunLaws.Quiets.{quiet_trans}
 use Rattle.iso_model.specs.Search.RunLaws.Thinness.{Thin}
 use Rattle.iso_model.proofs.Search.RunLaws.SameLaws.{same_beside, same_self}
@@ -19,6 +19,8 @@ use Rattle.iso_search_core.proofs.FittingLemmas.{fits_here, fits_on, fits_there}
 use Rattle.iso_search_core.specs.declared.lists.Lists as lists
 use Rattle.iso_search_core.specs.declared.nows.Now.TheVariants as now
 use Rattle.iso_search.specs.declared.search.Move.TheVariants as move
+use Rattle.iso_search.specs.Limits.{ComesFull}
+use Rattle.iso_search.proofs.OverLemmas.{comes_beyond}
 use Rattle.iso_search.specs.EngineStates.{AlikeStack, IsEngine, StandsAs, Represents, Remains, Keeps, Refused, Stopped, StandsBy, StandsFor, Moves, phase_of}
 
 -- a state in which no goal was started is the same as itself
@@ -81,12 +83,15 @@ module _ {S L W M K P C N B O : Type 0} (g : Ghosts S W M) (l : lists.Ghosts L S
       → Moves g l move.Goes s new
   goes_as e new s r v u h same is awake = goes_alike e new s r v h (record { own = u; engine = is; same = λ itself. same }) awake
 
-  -- where the step goes to a state with one alternative more, and there may be none more, the search comes to more than there may be
-  pub comes_over : (e : Search S L W M K P C N B O) (s : State) (r : Represents g l e s) (v : State) (limit : ℕ) → step r.own ≡ Goes v → length v.stack ≡ suc (length (r.own).stack) → limit ≤ length (r.own).stack → ComesOver limit s
+  -- where the step goes to a state with one alternative more, and there may be none more, the search comes to more
+  -- than there may be, and spans more
+  pub comes_over : (e : Search S L W M K P C N B O) (s : State) (r : Represents g l e s) (v : State) (limit : ℕ) → step r.own ≡ Goes v → length v.stack ≡ suc (length (r.own).stack) → limit ≤ length (r.own).stack → ComesFull limit s
   comes_over e s r v limit h longer full =
       let k = onward_alike r.own v s h r.same in
-      let fewer = alike_fewer v k.0 k.2 in
-      record { at = k.0; quiet = k.1; holds = omega (arith, fewer, longer, full) }
+      let fewer = alike_fewer v k.0 k.2 in (
+        record { at = k.0; quiet = k.1; holds = omega (arith, fewer, longer, full) },
+        comes_beyond g l e r.own s limit r.engine.choices r.same full,
+      )
 
   stands_by : (n m : Now N P) (e : Search S L W M K P C N B O) (s : State) → n ≡ m → StandsBy g l m e s → StandsBy g l n e s
   stands_by n m e s is r = subst (λ (x : Now N P). StandsBy g l x e s) (sym is) r

@@ -1,4 +1,4 @@
-use Rattle.std.proofs.Common.{◌-◌, length, take, drop, refl, sym, subst}
+use Rattle.std.proofs.Common.{◌-◌, length, take, drop, sym, subst}
 use Rattle.std.specs.List.{All}
 use Rattle.iso_model.specs.Search.Replies.{Answer}
 use Rattle.iso_store_core.specs.Retaining.{Takes}
@@ -107,7 +107,7 @@ returns-in-Is-clause-places g c nodes all list =
     c.index.ensures
 
 pub returns-in-Is-clause-cells : goal.returns-in-Is-clause-cells
-returns-in-Is-clause-cells g c nodes term mark behind x list of_row =
+returns-in-Is-clause-cells g c nodes all term mark behind x list first of_row =
     let f = c.index-frames-rest.result in
     let code = c.in-Clause.code in
     let level = c.in-Clause.field-1 in
@@ -118,7 +118,7 @@ returns-in-Is-clause-cells g c nodes term mark behind x list of_row =
     let named = g.met.S.Cells.named c.args.store.now in
     let takes = λ (a : Answer). Takes g.S.Store c.args.store.now c.evaluate.new.store (made_for a) in
     is_said h names named c.in-Is.left c.in-Is.steps c.in-Is.is c.as_slice.result.now c.as_slice.ensures.value takes
-    c.evaluate.ensures.cells term mark behind x refl of_row
+    c.evaluate.ensures.cells term mark behind x first of_row
 
 pub returns-in-Compare-clause-replies : goal.returns-in-Compare-clause-replies
 returns-in-Compare-clause-replies g c nodes all list =

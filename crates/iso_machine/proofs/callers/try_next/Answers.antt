@@ -1,12 +1,11 @@
-use Rattle.std.proofs.Common.{◌∙◌, Option, Ok, ap, arith, refl}
+use Rattle.std.proofs.Common.{◌∙◌, Option, Ok, ap, arith}
 use Rattle.iso_model.specs.Search.Walker.{with_others}
-use Rattle.iso_model.specs.declared.limit.Limit.TheVariants as limit
 use Rattle.iso_program.proofs.ResultLemmas.{behind_error}
 use Rattle.iso_search_core.specs.Bodies.{body_cost, most}
-use Rattle.iso_search_core.specs.declared.nows.Now.TheVariants as now
 use Rattle.iso_search.specs.EngineStates.{went_back}
 use Rattle.iso_search.specs.Retrying.{attempt_of}
 use Rattle.iso_search.proofs.BackLemmas.{newest_tries}
+use Rattle.iso_search.proofs.LimitLemmas.{stays_on}
 use Rattle.iso_search.proofs.Moves.Retry.{tries_on, stops_on}
 use Rattle.iso_search.proofs.WeightLemmas.{falls_back}
 use Rattle.iso_frames.specs.declared.frames.Rest.{Rest}
@@ -55,8 +54,8 @@ enter_clause-requires g c =
       t.calls,
     )
 
-pub returns-in-Went-clause-next : goal.returns-in-Went-clause-next
-returns-in-Went-clause-next g c = λ s r.
+pub returns-clause-next : goal.returns-clause-next
+returns-clause-next g c = λ s r.
     let l = framed g.S.Cells.atom_word in
     let tries = c.requires.tries in
     let went = c.go_back-newest in
@@ -89,8 +88,8 @@ returns-in_err-enter_clause-clause-stopped g c = λ s r.
     (c.in_err-enter_clause.ensures.kept (with_others t.call t.others a.list (went_back a b.newest.below r.own)) t.call
     t.clause t.others a.list tries.later t.calls))
 
-pub returns-in-Went-clause-falls : goal.returns-in-Went-clause-falls
-returns-in-Went-clause-falls g c =
+pub returns-clause-falls : goal.returns-clause-falls
+returns-clause-falls g c =
     let l = framed g.S.Cells.atom_word in
     let r = c.requires.stands.1 in
     let tries = c.requires.tries in
@@ -111,20 +110,12 @@ returns-in-Went-clause-falls g c =
     falls_back l c.args.search.now mid c.enter_clause.new.search went.ensures.choices went.ensures.costs
     went.ensures.steps steps (omega (arith, fewer, place, lists, entered))
 
-pub returns-in-Full-clause-next : goal.returns-in-Full-clause-next
-returns-in-Full-clause-next g c = λ s r.
-    let l = framed g.S.Cells.atom_word in
-    let tries = c.requires.tries in
-    let went = c.go_back-newest in
-    let leave = c.leave_choice-below in
-    let b = newest_left g.S.Store l c.args.search.now went.new.self leave.new.self went.result.mark went.result.rest
-    leave.result c.args.retry s r tries went.ensures.choices (went.ensures.back r.own r.engine) leave.ensures.calls
-    leave.ensures.below in
-    let t = b.retries in
-    let a = b.newest.alternative in
-    let spent = record c.enter_clause.new.search { now = now.Spent limit.Frames } in
-    let refused = stops_on g.S.Store l c.args.search.now spent (attempt_of c.args.retry tries.later) went.result.rest s
-    r a b.newest.below leave.new.self leave.result c.requires.failing b.newest.stack t b.height
-    (c.in_ok-enter_clause.ensures.full (with_others t.call t.others a.list (went_back a b.newest.below r.own)) t.call
-    t.clause t.others a.list tries.later t.calls (ap Ok c.in-Full.is)) in
-    ((refused.stopped, refl), tt)
+pub returns-in_err-enter_clause-clause-stays : goal.returns-in_err-enter_clause-clause-stays
+returns-in_err-enter_clause-clause-stays g c =
+    stays_on g.S.Store c.go_back-newest.ensures.stays
+    (stays_on g.S.Store c.leave_choice-below.ensures.stays c.enter_clause.ensures.stays)
+
+pub returns-clause-stays : goal.returns-clause-stays
+returns-clause-stays g c =
+    stays_on g.S.Store c.go_back-newest.ensures.stays
+    (stays_on g.S.Store c.leave_choice-below.ensures.stays c.enter_clause.ensures.stays)

@@ -43,21 +43,6 @@ returns-in_err-enter-clause-kept g c = λ s t k ks gs later calls.
     (g.S.Store.present e.store) s t k c.args.mark gs (pending_at e.lists c.args.rest) keeps (on.cells k is)
     calls.ahead.fits)
 
-pub returns-in-Full-clause-full : goal.returns-in-Full-clause-full
-returns-in-Full-clause-full g c = λ s t k ks gs later calls done.
-    let a = g.S.Cells.atom_word in
-    let e = c.args.search.now in
-    let on = c.in_ok-enter.ensures in
-    let held = c.enter.new.lists in
-    let grows = adds_keeps a e.lists held (adds_same on.nodes) on.frames on.words in
-    let is = left_clause (g.S.Store.names e.store) e.db calls.clauses c.clause-entered.result.now
-    c.clause-entered.ensures in
-    let keeps = keeps_more g.S.Store (framed a) e c.enter.new.store held s.world s.stack
-    (keeps_ahead g.S.Store (framed a) e _ c.args.rest calls.ahead) on.rest.marks (same_texts on.rest.names) grows in
-    remains_tried g.S.Store (framed a) (record e { store = c.enter.new.store; lists = held })
-    (g.S.Store.present e.store) s t k c.args.mark gs (pending_at e.lists c.args.rest) keeps (on.cells k is)
-    calls.ahead.fits
-
 pub coming-search-requires : goal.coming-search-requires
 coming-search-requires g c =
     let a = g.S.Cells.atom_word in
@@ -148,6 +133,10 @@ returns-in-At-clause-costs g c = λ done.
     ≤ body_cost most (cost_at e.lists c.args.rest))) c.in-At.is on.cost in
     omega (arith, same, first, cost)
 
+pub returns-in-Last-clause-alone : goal.returns-in-Last-clause-alone
+returns-in-Last-clause-alone g c = λ done.
+    c.may_go_last-last.ensures.last (c.in_ok-enter.ensures.alone (ap Ok c.in-Last.is)).0
+
 pub returns-in-Last-clause-last : goal.returns-in-Last-clause-last
 returns-in-Last-clause-last g c = λ done.
     let a = g.S.Cells.atom_word in
@@ -162,40 +151,40 @@ returns-in-Last-clause-last g c = λ done.
     r.clauses.stands ∙ ap Some (sym (c.clause-entered.ensures r.clauses.kept r.clauses.stands)) in
     let is_last = ap Ok c.in-Last.is in
     let alone = on.alone is_last in
-    let many = c.has_room-room.ensures.few alone.1 in
-    let same = ap (λ (v : Vec Frame Global). length v.items) alone.2 in
+    let many = c.may_go_last-last.ensures.few alone.0 in
+    let same = ap (λ (v : Vec Frame Global). length v.items) alone.1 in
     let few : length held.frames.items + 1 < 9223372036854775808 = omega (arith, many, same) in
     let rest = c.args.rest in
     let mark = c.args.mark in
-    let frames = frames_last g.S.Store a e store held c.args.clause value mark rest stands alone.3 alone.2 few in
-    let has = has_last g.S.Store a e store held c.args.clause value mark rest stands alone.3 alone.2 few in
+    let frames = frames_last g.S.Store a e store held c.args.clause value mark rest stands alone.2 alone.1 few in
+    let has = has_last g.S.Store a e store held c.args.clause value mark rest stands alone.2 alone.1 few in
     record {
       frames = frames;
       rest = place_of held;
       unframed =
-          last_unframed g.S.Store a e store held c.args.clause value mark rest stands alone.3 alone.2 few _ r.ahead;
+          last_unframed g.S.Store a e store held c.args.clause value mark rest stands alone.2 alone.1 few _ r.ahead;
       says = (
         λ s t k ks gs later calls.
             let is = left_clause names e.db calls.clauses value c.clause-entered.ensures in
             let most = clause_cells is.own in
-            let behind = ap (λ (v : Vec Frame Global). pending_of v.items rest) alone.2 in
-            let pending = last_pending held frames value.own.kept mark rest has alone.3 in
+            let behind = ap (λ (v : Vec Frame Global). pending_of v.items rest) alone.1 in
+            let pending = last_pending held frames value.own.kept mark rest has alone.2 in
             let attempt : Attempt KeptCall = record { clause = c.args.clause; later = later; call = c.args.call } in
             let tried : Tried g.S.Store (framed a) e attempt rest s t k ks gs store (with_frames held frames) = record {
               calls = calls;
               keeps = on.rest.marks;
               texts = same_texts on.rest.names;
               grows =
-                  last_grows g.S.Store a e store held c.args.clause value mark rest stands alone.3 alone.2 few on.nodes
+                  last_grows g.S.Store a e store held c.args.clause value mark rest stands alone.2 alone.1 few on.nodes
                   on.words;
               cells = on.cells k is;
               few = is.few;
               goals = is.own.goals;
             } in
-            last_engine g.S.Store a e attempt rest s t k ks gs store held mark frames value.own.kept has alone.3 tried
+            last_engine g.S.Store a e attempt rest s t k ks gs store held mark frames value.own.kept has alone.2 tried
             (on.last frames k t gs is_last has is calls.is_for calls.ahead.chain)
             (omega (arith, most, behind, pending)),
-        last_costs g.S.Store a e store held c.args.clause value mark rest stands alone.3 alone.2 few _ r.ahead on.nodes
+        last_costs g.S.Store a e store held c.args.clause value mark rest stands alone.2 alone.1 few _ r.ahead on.nodes
             on.words,
       );
     }

@@ -16,7 +16,7 @@ use Rattle.iso_search.proofs.Moves.Call.{calls_last, calls_later}
 use Rattle.iso_machine.proofs.calling.push_later.Goals as goal
 
 pub next_left-requires : goal.next_left-requires
-next_left-requires g c = (let t = c.requires.6 in (t.clauses.behind, t.clauses.gives))
+next_left-requires g c = (let t = c.requires.calls.6 in (t.clauses.behind, t.clauses.gives))
 
 pub returns-then-not-has_left-clause-calls : goal.returns-then-not-has_left-clause-calls
 returns-then-not-has_left-clause-calls g c = λ first s call k ks gs t done.
@@ -33,8 +33,8 @@ unreachable-requires g c =
     let e = c.args.search.now in
     let names = g.S.Store.names e.store in
     let own = own_of (framed {S = g.row.S.Denot} {M = g.row.S-Mark.Denot} g.S.Cells.atom_word) in
-    let t = c.requires.6 in
-    let ks = c.requires.4 in
+    let t = c.requires.calls.6 in
+    let ks = c.requires.calls.4 in
     let are = left_behind names e.db t.clauses in
     let next = c.next_left.ensures.left names t.clauses.behind ks t.clauses.gives are t.clauses.few in
     let none : ks ≡ [] =
@@ -70,7 +70,7 @@ pub returns-clause-costs : goal.returns-clause-costs
 returns-clause-costs g c = λ done.
     let e = c.args.search.now in
     let l = framed {S = g.row.S.Denot} {M = g.row.S-Mark.Denot} g.S.Cells.atom_word in
-    let t = c.requires.6 in
+    let t = c.requires.calls.6 in
     let few = t.clauses.few in
     let less = c.next_left.ensures.never_rises in
     let all = ap (λ (x : Engine g.row.S.Denot g.row.S-Word.Denot g.row.S-Mark.Denot). kept_cost l x)
@@ -79,3 +79,17 @@ returns-clause-costs g c = λ done.
     let later = view_cost (remaining_keyed c.next_left.new.later) (cost_at e.lists c.args.rest)
     (omega (arith, few, less)) in
     omega (arith, all, gained, later)
+
+pub returns-clause-room : goal.returns-clause-room
+returns-clause-room g c = λ none.
+    let e = c.args.search.now in
+    let names = g.S.Store.names e.store in
+    let r = c.requires.calls in
+    let t = r.6 in
+    let are = left_behind names e.db t.clauses in
+    let some : 0 < length r.4 =
+    subst (λ b. MatchBool b (0 < length r.4) (r.4 ≡ [])) c.if-not-has_left.false
+    (c.has_left.ensures names t.clauses.behind r.4 t.clauses.gives are) in
+    let room = c.requires.room r.0 r.1 r.2 r.3 r.4 r.5 t some in
+    let full = (c.push_choice.ensures.full none).1 in
+    omega (arith, room, full)

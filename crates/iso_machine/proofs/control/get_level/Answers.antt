@@ -2,13 +2,23 @@ use Rattle.std.proofs.Common.{refl, ◌∙◌, rules}
 use Rattle.iso_search.proofs.MovedLemmas.{frames_full, no_lists}
 use Rattle.iso_machine.specs.Engines.{framed}
 use Rattle.iso_machine.proofs.FrameLemmas.{adds_keeps, adds_same}
-use Rattle.iso_machine.proofs.LevelMoves.{level_some, level_low, level_split, level_goes, level_moved, made_clause, made_inside}
+use Rattle.iso_machine.proofs.InstructionMoves.{code_ahead}
+use Rattle.iso_machine.proofs.LevelMoves.{level_beyond, level_some, level_low, level_split, level_goes, level_moved, made_clause, made_inside}
 use Rattle.iso_machine.proofs.control.get_level.Goals as goal
+
+pub has_room-requires : goal.has_room-requires
+has_room-requires g c =
+    let own = c.requires.stands.1.own in
+    let ahead = code_ahead g.S.Store g.S.Cells.atom_word c.args.search.now own c.args.rest c.requires.now
+    c.requires.stands.1.engine in
+    (own.query, own.stack, own.list, ahead.choices, ahead.chain)
 
 pub returns-then-not-has_room : goal.returns-then-not-has_room
 returns-then-not-has_room g c =
     rw (c.full_frames.ensures.is, c.full_frames.ensures.spent)
-    (frames_full g.S.Store (framed g.S.Cells.atom_word) c.args.search.now (λ s r. tt))
+    (frames_full g.S.Store (framed g.S.Cells.atom_word) c.args.search.now
+    (λ s r. level_beyond g.S.Store g.S.Cells.atom_word c.args.search.now c.args.rest c.args.slot c.requires.now
+    c.requires.there (c.has_room.ensures.full c.if-not-has_room.true) s r))
 
 pub push_level-requires-clause-address : goal.push_level-requires-clause-address
 push_level-requires-clause-address g c =

@@ -49,7 +49,6 @@ returns-clause-cost g c =
 pub returns-then-is_one_call-clause-last : goal.returns-then-is_one_call-clause-last
 returns-then-is_one_call-clause-last g c = λ done. (
   c.if-last.true,
-  c.if-not-room.false,
   refl,
   subst (λ (code : Code). CallsAlone code) c.as_ref-then-last.ensures (c.is_one_call.ensures c.if-is_one_call.true),
 )

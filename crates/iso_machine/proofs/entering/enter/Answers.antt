@@ -155,9 +155,9 @@ returns-clause-last g c = λ fs d t ms done framed is calls list.
       made = c.meet_clause.new.made;
     }) fs in
     let alone = c.in_ok-begin.ensures.last (ap Ok last) in
-    let two = alone.3.two in
+    let two = alone.2.two in
     subst (λ (held : Framed _ _ _). HasFrame held fs c.args.clause.now.own.kept c.args.mark c.args.rest
-    → Begins a p q t d c.args.mark ms (with_frames held fs) (Some (place_of held))) (sym alone.2)
+    → Begins a p q t d c.args.mark ms (with_frames held fs) (Some (place_of held))) (sym alone.1)
     (λ frames. met_begins a p q is.own calls.name arguments own same h many t c.args.mark ms met_lists
     (Some (place_of (with_frames met_lists l.frames))) calls.is
     (g.met.S.Cells.settled c.meet_clause.new.store)
@@ -170,4 +170,4 @@ pub returns-clause-alone : goal.returns-clause-alone
 returns-clause-alone g c = λ done.
     let last : c.in_ok-begin.field-0 ≡ entered.Last = cc done in
     let alone = c.in_ok-begin.ensures.last (ap Ok last) in
-    (alone.0, alone.1, ap (λ (held : Framed _ _ _). held.frames) alone.2, alone.3)
+    (alone.0, ap (λ (held : Framed _ _ _). held.frames) alone.1, alone.2)

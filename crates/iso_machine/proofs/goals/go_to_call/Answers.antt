@@ -1,4 +1,4 @@
-use Rattle.std.proofs.Common.{◌≡◌, ◌∙◌, None, ap, subst, arith, rules}
+use Rattle.std.proofs.Common.{◌≡◌, ◌∙◌, None, ap, subst, arith}
 use Rattle.iso_search_core.specs.declared.nows.Now.TheVariants as now
 use Rattle.iso_frames.specs.declared.frames.Next.TheVariants as next
 use Rattle.iso_environments.specs.Answering.{IsArithmeticThere}

@@ -56,7 +56,6 @@ returns-in-Went-clause-came g c = λ old h.
       falls =
           go_falls g.S.Store g.S.Cells.atom_word h c.make_ready.new.search c.call.new.search ready.steps ready.costs
           ready.behind called.steps (called.costs went);
-      room = λ none. absurd (cc);
       full = λ none. absurd (cc);
       stays = stays_on g.S.Store h.put.stays (stays_on g.S.Store ready.stays called.stays);
     }
@@ -67,15 +66,10 @@ returns-in-Full-clause-came g c = λ old h.
     let called = c.in_ok-call.ensures in
     let full = ap Ok c.in-Full.is in
     λ asked. record {
-      next = λ s r. (
-        go_full g.S.Store g.S.Cells.atom_word h ready.ahead s r c.call.new.search
-            (called.full _ _ _ _ _ (go_calls g.S.Store g.S.Cells.atom_word h ready.ahead s r c.in_ok-kept.kept
-            ready.is_for ready.steps ready.names ready.clauses) full),
-        tt,
-      );
+      next = λ s r. go_full g.S.Store g.S.Cells.atom_word h ready.ahead s r c.call.new.search (called.full full)
+          (called.beyond full);
       stopped = λ s r. tt;
       falls = tt;
-      room = λ is. called.no_room full;
       full = λ none. absurd (cc);
       stays = stays_next g.S.Store _ (stays_on g.S.Store h.put.stays (stays_on g.S.Store ready.stays called.stays));
     }
@@ -98,7 +92,6 @@ returns-in-Last-clause-came g c = λ old h.
         falls =
             go_falls g.S.Store g.S.Cells.atom_word h c.make_ready.new.search with ready.steps ready.costs ready.behind
             called.steps entered.says.1;
-        room = λ none. absurd (cc);
         full = λ none. absurd (cc);
         stays =
             stays_framed g.S.Store

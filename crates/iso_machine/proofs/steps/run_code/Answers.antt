@@ -1,6 +1,8 @@
 use Rattle.std.proofs.Common.{subst}
 use Rattle.std.proofs.lemmas.Option.{slice_get_within}
 use Rattle.iso_environments.specs.Answering.{IsArithmeticThere}
+use Rattle.iso_search.proofs.MovedLemmas.{moved_over}
+use Rattle.iso_machine.specs.Engines.{framed}
 use Rattle.iso_machine.specs.Steps.{ActsThere}
 use Rattle.iso_machine.proofs.StepLemmas.{step_left}
 use Rattle.iso_machine.proofs.steps.run_code.Goals as goal
@@ -27,3 +29,7 @@ run_instruction-requires-clause-there g c =
     c.requires.stands.1 c.requires.there c.act_there.result
     (subst (λ fs. ActsThere fs c.args.rest c.act_there.result) c.as_slice.ensures.value c.act_there.ensures)
     c.in_default.not-Computes
+
+pub returns-in-Computes : goal.returns-in-Computes
+returns-in-Computes g c =
+    moved_over g.S.Store (framed g.S.Cells.atom_word) {Fact = λ s. ⊥} (λ s none. absurd none) c.run_arithmetic.ensures

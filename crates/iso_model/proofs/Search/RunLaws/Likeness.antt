@@ -16,8 +16,9 @@ use Rattle.iso_model.specs.Search.RunLaws.Named.{run_of}
 use Rattle.iso_model.proofs.Search.RunLaws.Quiets.{quiet_trans, comes_behind, finishes_behind}
 use Rattle.iso_model.proofs.Search.RunLaws.Values.{reply_own, IsOwnReply}
 use Rattle.iso_model.proofs.Search.RunLaws.TermValues.{value_is}
-use Rattle.iso_model.specs.Search.RunLaws.Sameness.{IsValue, IsOwnLeft, flat, SameList, same_goal, same_construct, SameStack, same_alternative, Beside, Around, Same, going, failing}
-use Rattle.iso_model.proofs.Search.RunLaws.SameSteps.{Open, open_end, open_goal, open_other, opened, opens, list_is_open, same_opened, put_alone, flat_other, is_run, stack_length, steps_same, tried_same, offered_same, is_goal}
+use Rattle.iso_model.specs.Search.RunLaws.Sameness.{IsValue, IsOwnLeft, open_list, SameList, same_goal, same_construct, SameStack, same_alternative, Beside, Around, Same, going, failing}
+use Rattle.iso_model.proofs.Search.RunLaws.SameSteps.{is_run, open_twice, stack_length, steps_same, tried_same, offered_same}
+use Rattle.iso_model.proofs.Search.RunLaws.Opening.{opened, opens, same_opened, opened_same}
 use Rattle.iso_model.proofs.Search.RunLaws.SameRuns.{onward_same, comes_same, finishes_same, same_run}
 use Rattle.iso_model.proofs.Search.RunLaws.SameLaws.{same_beside, same_on, list_back, failing_left}
 use Rattle.iso_model.specs.Search.RunLaws.Thinness.{Skips, SkipsRows, Thin}
@@ -61,6 +62,10 @@ finishes_alike t s e w P is stands h =
 pub alike_on : (o t s : State) → Same o t → Alike t s → Alike o s
 alike_on o t s same h = record { middle = h.middle; same = same_on o t h.middle same h.same; thin = h.thin }
 
+-- so the first without a conjunction in front
+pub opened_alike : (t s : State) → Alike t s → Alike (opened t) s
+opened_alike t s h = record { middle = h.middle; same = opened_same t h.middle h.same; thin = h.thin }
+
 -- they have one run
 pub alike_run : (t s : State) → Alike t s → run_of t ≡ run_of s
 alike_run t s h = same_run t h.middle h.same ∙ thin_run h.middle s h.thin
@@ -87,26 +92,14 @@ record HasGoal (r q : Subst) (a : Tree) (ms xs : List Member) : Type 0 where
   others : List Member
   is : xs ≡ Goal (Run goal) mark ∷ others
   value : apply r a ≡ apply q goal
-  same : SameList r q (flat ms) (flat others)
+  same : SameList r q ms others
 
-first_goal : {r q : Subst} {a : Tree} {b : Body} {m n : ℕ} {ms ns : List Member} → SameList r q (Goal (Run a) m ∷ flat ms) (Goal b n ∷ flat ns)
-    → HasGoal r q a ms (Goal b n ∷ ns)
-first_goal {n = n} {ns = ns} (same_goal {u = u} value others) = record { goal = u; mark = n; others = ns; is = refl; value = value; same = others }
-first_goal {r} {q} {a = a} {n = n} {ns = ns} (same_construct {c = c} same others) =
+first_goal : {r q : Subst} {a : Tree} {m : ℕ} {ms xs : List Member} → SameList r q (Goal (Run a) m ∷ ms) xs → HasGoal r q a ms xs
+first_goal (same_goal {u = u} {n = n} {ns = ns} value others) =
+    record { goal = u; mark = n; others = ns; is = refl; value = value; same = others }
+first_goal {r} {q} {a = a} (same_construct {c = c} {m = n} {ns = ns} same others) =
     let p = is_run q (apply r a) c same in
     record { goal = p.0; mark = n; others = ns; is = ap (λ (x : Body). Goal x n ∷ ns) p.1; value = p.2; same = others }
-
-no_first : {r q : Subst} {m : Member} {ms : List Member} → SameList r q (m ∷ ms) [] → ⊥
-no_first h = elim h [ ]
-
-first_is_goal : {r q : Subst} {a : Tree} {m : ℕ} {n : Member} {ms ns : List Member} → SameList r q (Goal (Run a) m ∷ ms) (n ∷ ns) → is_goal n ≡ true
-first_is_goal (same_goal value others) = refl
-first_is_goal (same_construct same others) = refl
-
-opened_goal : {r q : Subst} {a : Tree} {m : ℕ} {ms xs : List Member} → Open xs → SameList r q (Goal (Run a) m ∷ flat ms) (flat xs) → HasGoal r q a ms xs
-opened_goal open_end list = absurd (no_first list)
-opened_goal (open_goal {b = b} {mark = mark} {ms = ns} alone) list = first_goal (rw (put_alone b mark (flat ns) alone) at list)
-opened_goal (open_other {m = n} {ms = ns} other) list = let is = first_is_goal (rw (flat_other n ns other) at list) in absurd (cc)
 
 -- The first state calls a user procedure, and leaves out clauses that miss the call.
 pub call_alike : (t s : State) (a : Tree) (m : ℕ) (ms : List Member) (n : ℕ) (key : Key) (cs ds : List Clause) → Alike t s → t.list ≡ Goal (Run a) m ∷ ms
@@ -120,14 +113,15 @@ call_alike t s a m ms n key cs ds h first left named none found skips = by_same 
   by_same (failing xs ys is are beside) = absurd (no_failing_goal is first)
   by_same (going at list) =
       let v = apply t.subst a in
-      let known = subst (λ (xs : List Member). SameList t.subst o.subst (flat xs) (flat o.list)) first list in
-      let g = opened_goal {ms = ms} (list_is_open (h.middle).list) known in
+      let known = subst (λ (xs : List Member). SameList t.subst o.subst xs o.list) (ap open_list first)
+      (subst (λ (xs : List Member). SameList t.subst o.subst (open_list t.list) xs) (open_twice (h.middle).list) list) in
+      let j = quiet_thin h.middle o s (opens h.middle) h.thin in
+      let g = first_goal {ms = ms} known in
       let value : v ≡ apply o.subst g.goal = g.value in
       let own = value_is t.subst a at.agree.twice in
       let other = subst (λ (x : Tree). IsValue o.subst x) (sym value) (value_is o.subst g.goal at.agree.other) in
       let same : Same (record (tried v ds ms t) { steps = n }) (record (tried v ds g.others o) { steps = n }) =
       steps_same n (tried_same t o ms g.others v ds own other at g.same) in
-      let j = quiet_thin h.middle o s (opens h.middle) h.thin in
       let on = call_follows o j.0 g.goal g.mark g.others n key cs ds j.2 g.is (sym at.beside.steps ∙ left) (ap key_of (sym value) ∙ named) none
       (ap (λ (w : World). clauses_at w.database.procedures key) (sym at.beside.world) ∙ found) (subst (λ (x : Tree). Skips x ds cs) value skips) in (
         on.0,
@@ -195,15 +189,16 @@ offers_alike t s a m ms n key b settles left os ps h first more named found is o
   by_same (failing xs ys fails are beside) = absurd (no_failing_goal fails first)
   by_same (going at list) =
       let v = apply t.subst a in
-      let known = subst (λ (xs : List Member). SameList t.subst o.subst (flat xs) (flat o.list)) first list in
-      let g = opened_goal {ms = ms} (list_is_open (h.middle).list) known in
+      let known = subst (λ (xs : List Member). SameList t.subst o.subst xs o.list) (ap open_list first)
+      (subst (λ (xs : List Member). SameList t.subst o.subst (open_list t.list) xs) (open_twice (h.middle).list) list) in
+      let j = quiet_thin h.middle o s (opens h.middle) h.thin in
+      let g = first_goal {ms = ms} known in
       let value : v ≡ apply o.subst g.goal = g.value in
       let own = own_offers t.subst b v settles t.next t.world left os (value_is t.subst a at.agree.twice) is offers in
       let there : IsValue o.subst v = subst (λ (x : Tree). IsValue o.subst x) (sym value) (value_is o.subst g.goal at.agree.other) in
       let other = own_offers o.subst b v settles t.next t.world left os there is offers in
       let same : Same (record (offered left ps ms t) { steps = n }) (record (offered left ps g.others o) { steps = n }) =
       steps_same n (offered_same t o ms g.others left ps own other at g.same) in
-      let j = quiet_thin h.middle o s (opens h.middle) h.thin in
       let on = offers_follow o j.0 g.goal g.mark g.others n key b settles left os ps j.2 g.is (sym at.beside.steps ∙ more) (ap key_of (sym value) ∙ named) found
       (ap (reply b) (sym value) ∙ is) (sym (ap₂ settles at.next at.beside.world) ∙ offers) skips in
       (on.0, quiet_trans j.1 on.1, record { middle = record (offered left ps g.others o) { steps = n }; same = same; thin = on.2 })

@@ -4,7 +4,7 @@ use Rattle.iso_model.specs.Terms.Substitutions.{Subst, apply}
 use Rattle.iso_model.specs.Search.Bodies.{Body, Cut, Run, And, Or, If, Choose}
 use Rattle.iso_model.specs.Search.Walker.{State, Member, Goal, CutTo, Fail, Leave, Raise, Meet, Gather, Alternative}
 use Rattle.iso_model.proofs.Search.RunLaws.SameSteps.{is_run, list_same}
-use Rattle.iso_model.specs.Search.RunLaws.Sameness.{put, flat, SameList, no_member, same_goal, same_construct, same_cut, same_failure, same_leave, same_ball, same_meeting, same_gathering, Agree, SameStack, no_alternative, same_alternative, Beside, Same, going, failing}
+use Rattle.iso_model.specs.Search.RunLaws.Sameness.{SameList, no_member, same_goal, same_construct, same_cut, same_failure, same_leave, same_ball, same_meeting, same_gathering, Agree, SameStack, no_alternative, same_alternative, Beside, open_body, open_list, Same, going, failing}
 
 pub list_back : {r q : Subst} {ms ns : List Member} → SameList r q ms ns → SameList q r ns ms
 list_back no_member = no_member
@@ -29,7 +29,7 @@ beside_self : {s t : State} → Beside s t → Beside s s
 beside_self h = record { stack = stack_self h.stack; world = refl; steps = refl; query = omega arith; built = omega arith }
 
 pub same_self : (s t : State) → Same s t → Same s s
-same_self s t (going at list) = going (record { agree = agree_self at.agree; next = refl; beside = beside_self at.beside }) (list_same s.list)
+same_self s t (going at list) = going (record { agree = agree_self at.agree; next = refl; beside = beside_self at.beside }) (list_same (open_list s.list))
 same_self s t (failing ms ns is are h) = failing ms ms is is (beside_self h)
 
 list_on_list : {r q p : Subst} {ms ns os : List Member} → SameList r q ms ns → SameList q p ns os → SameList r p ms os
@@ -60,18 +60,18 @@ stack_on_stack (same_alternative {a = a} {b = b} agree next built list left own 
 beside_on : {s t u : State} → Beside s t → Beside t u → Beside s u
 beside_on h k = record { stack = stack_on_stack h.stack k.stack; world = h.world ∙ k.world; steps = h.steps ∙ k.steps; query = let first = h.query in let second = k.query in omega (arith, first, second); built = let first = h.built in let second = k.built in omega (arith, first, second) }
 
--- a list whose goals begin with failure does so itself
-body_no_failure : (b : Body) (mark : ℕ) (ms ns : List Member) → put b mark ms ≡ Fail ∷ ns → ⊥
+-- a list that begins with failure once it is opened does so itself
+body_no_failure : (b : Body) (mark : ℕ) (ms ns : List Member) → open_body b mark ms ≡ Fail ∷ ns → ⊥
 body_no_failure Cut mark ms ns e = cc
 body_no_failure (Run t) mark ms ns e = cc
 body_no_failure (Or a b) mark ms ns e = cc
 body_no_failure (If c t) mark ms ns e = cc
 body_no_failure (Choose c t e) mark ms ns is = cc
-body_no_failure (And a b) mark ms ns e = body_no_failure a mark (put b mark ms) ns e
+body_no_failure (And a b) mark ms ns e = body_no_failure a mark (Goal b mark ∷ ms) ns e
 
-failure_first : (ms ns : List Member) → flat ms ≡ Fail ∷ ns → (others : List Member) × (ms ≡ Fail ∷ others)
+failure_first : (ms ns : List Member) → open_list ms ≡ Fail ∷ ns → (others : List Member) × (ms ≡ Fail ∷ others)
 failure_first [] ns e = absurd (cc)
-failure_first (Goal b mark ∷ ms) ns e = absurd (body_no_failure b mark (flat ms) ns e)
+failure_first (Goal b mark ∷ ms) ns e = absurd (body_no_failure b mark ms ns e)
 failure_first (CutTo height ∷ ms) ns e = absurd (cc)
 failure_first (Fail ∷ ms) ns e = (ms, refl)
 failure_first (Leave height ∷ ms) ns e = absurd (cc)
@@ -90,9 +90,9 @@ fails_left others (same_ball more) e = absurd (cc)
 fails_left others (same_meeting catcher recovery more) e = absurd (cc)
 fails_left others (same_gathering value more) e = absurd (cc)
 
-pub failing_left : (s t : State) (ns : List Member) → SameList s.subst t.subst (flat s.list) (flat t.list) → t.list ≡ Fail ∷ ns → (ms : List Member) × (s.list ≡ Fail ∷ ms)
+pub failing_left : (s t : State) (ns : List Member) → SameList s.subst t.subst (open_list s.list) (open_list t.list) → t.list ≡ Fail ∷ ns → (ms : List Member) × (s.list ≡ Fail ∷ ms)
 failing_left s t ns list is =
-    let first = fails_left (flat ns) list (ap flat is) in
+    let first = fails_left ns list (ap open_list is) in
     failure_first s.list first.0 first.1
 
 pub same_on : (s t u : State) → Same s t → Same t u → Same s u

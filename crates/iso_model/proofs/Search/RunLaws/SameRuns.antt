@@ -5,8 +5,9 @@ use Rattle.iso_model.specs.Search.Walker.{State, World, Member, Goal, CutTo, Fai
 use Rattle.iso_model.specs.Search.Runs.{Trace, Then, goes, gives, ends, Quiet, here, onward, Comes, Finishes}
 use Rattle.iso_model.specs.Search.Runs as runs
 use Rattle.iso_model.specs.Search.RunLaws.Named.{run_of, run_of_is, run_of_only}
-use Rattle.iso_model.specs.Search.RunLaws.Sameness.{flat, Same, going, failing}
-use Rattle.iso_model.proofs.Search.RunLaws.SameSteps.{SameOut, both_go, both_give, both_end, Open, open_end, open_goal, open_other, opened, opens, with_lists, list_is_open, same_opened, steps_alike}
+use Rattle.iso_model.specs.Search.RunLaws.Sameness.{open_list, Same, going, failing}
+use Rattle.iso_model.proofs.Search.RunLaws.SameSteps.{SameOut, both_go, both_give, both_end, Open, open_end, open_goal, open_other, list_is_open, steps_alike}
+use Rattle.iso_model.proofs.Search.RunLaws.Opening.{opened, opens, with_lists, same_opened}
 
 -- what a step goes to, gives or ends with is what the other's does
 pub after_go : {s : State} {o : Outcome} → SameOut (Goes s) o → (t : State) × (o ≡ Goes t) × Same s t
@@ -50,7 +51,7 @@ taken_apart s a b mark others is = ap (λ (ms : List Member). step_list ms s) is
 -- the first one's conjunction taken apart
 same_apart : (s t : State) (a b : Body) (mark : ℕ) (others : List Member) → s.list ≡ Goal (And a b) mark ∷ others → Same s t → Same (record s { list = Goal a mark ∷ Goal b mark ∷ others }) t
 same_apart s t a b mark others is h =
-    with_lists s t (Goal a mark ∷ Goal b mark ∷ others) t.list (ap flat (sym is)) refl
+    with_lists s t (Goal a mark ∷ Goal b mark ∷ others) t.list (ap open_list (sym is)) refl
     (λ xs e. absurd (no_conjunction (sym is ∙ e))) (λ xs e. e) h
   where
     no_conjunction : {a b : Body} {mark : ℕ} {ms ns : List Member} → Goal (And a b) mark ∷ ms ≡ Fail ∷ ns → ⊥

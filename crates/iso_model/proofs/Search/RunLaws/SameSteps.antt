@@ -24,7 +24,7 @@ use Rattle.iso_model.proofs.Search.RunLaws.SettingValues.{IsOwnSettled}
 use Rattle.iso_model.proofs.Search.RunLaws.Values.{IsOwnBody, IsOwnReply, reply_own}
 use Rattle.iso_model.proofs.Search.RunLaws.TermValues.{value_is, twice_on, row_value, list_value}
 use Rattle.iso_model.proofs.Search.RunLaws.GroupValues.{witnesses_values, collection_values}
-use Rattle.iso_model.specs.Search.RunLaws.Sameness.{put, flat, SameList, no_member, same_goal, same_construct, same_cut, same_failure, same_leave, same_ball, same_meeting, same_gathering, Agree, SameStack, no_alternative, same_alternative, Beside, Around, Same, going, failing, IsOwnLeft, IsOwnCollecting, IsValue}
+use Rattle.iso_model.specs.Search.RunLaws.Sameness.{SameList, no_member, same_goal, same_construct, same_cut, same_failure, same_leave, same_ball, same_meeting, same_gathering, Agree, SameStack, no_alternative, same_alternative, Beside, Around, open_body, open_list, Same, going, failing, IsOwnLeft, IsOwnCollecting, IsValue}
 
 -- ---- what was built
 
@@ -92,6 +92,76 @@ renamed_same r q n t beyond =
     let new : Subst = λ k. Variable (n + k) in
     apply_apply new r t ∙ (apply_same (compose new r) (compose new q) t (λ x o. beyond (n + x) (omega arith)) ∙ sym (apply_apply new q t))
 
+-- ---- conjunctions that come first
+
+abbrev pub is_conjunction : Body → Bool
+is_conjunction (And a b) = true
+is_conjunction Cut = false
+is_conjunction (Run t) = false
+is_conjunction (Or a b) = false
+is_conjunction (If c t) = false
+is_conjunction (Choose c t e) = false
+
+abbrev pub is_goal : Member → Bool
+is_goal (Goal b mark) = true
+is_goal (CutTo height) = false
+is_goal Fail = false
+is_goal (Leave height) = false
+is_goal (Raise ball) = false
+is_goal (Meet ball catcher recovery) = false
+is_goal (Gather height template) = false
+
+-- the list's first member is no conjunction
+pub data Open : List Member → Type 0 where
+  open_end : Open []
+  open_goal : {b : Body} {mark : ℕ} {ms : List Member} → is_conjunction b ≡ false → Open (Goal b mark ∷ ms)
+  open_other : {m : Member} {ms : List Member} → is_goal m ≡ false → Open (m ∷ ms)
+
+open_alone : (b : Body) (mark : ℕ) (ms : List Member) → is_conjunction b ≡ false → open_body b mark ms ≡ Goal b mark ∷ ms
+open_alone (And a b) mark ms alone = absurd (cc)
+open_alone Cut mark ms alone = refl
+open_alone (Run t) mark ms alone = refl
+open_alone (Or a b) mark ms alone = refl
+open_alone (If c t) mark ms alone = refl
+open_alone (Choose c t e) mark ms alone = refl
+
+-- a list whose first member is no goal is its own
+open_member : (m : Member) (ms : List Member) → is_goal m ≡ false → open_list (m ∷ ms) ≡ m ∷ ms
+open_member (Goal b mark) ms other = absurd (cc)
+open_member (CutTo height) ms other = refl
+open_member Fail ms other = refl
+open_member (Leave height) ms other = refl
+open_member (Raise ball) ms other = refl
+open_member (Meet ball catcher recovery) ms other = refl
+open_member (Gather height template) ms other = refl
+
+-- so is one whose first member is no conjunction
+pub open_is : {ms : List Member} → Open ms → open_list ms ≡ ms
+open_is open_end = refl
+open_is (open_goal {b = b} {mark = mark} {ms = ms} alone) = open_alone b mark ms alone
+open_is (open_other {m = m} {ms = ms} other) = open_member m ms other
+
+body_is_open : (b : Body) (mark : ℕ) (ms : List Member) → Open (open_body b mark ms)
+body_is_open (And a b) mark ms = body_is_open a mark (Goal b mark ∷ ms)
+body_is_open Cut mark ms = open_goal refl
+body_is_open (Run t) mark ms = open_goal refl
+body_is_open (Or a b) mark ms = open_goal refl
+body_is_open (If c t) mark ms = open_goal refl
+body_is_open (Choose c t e) mark ms = open_goal refl
+
+pub list_is_open : (ms : List Member) → Open (open_list ms)
+list_is_open [] = open_end
+list_is_open (Goal b mark ∷ ms) = body_is_open b mark ms
+list_is_open (CutTo height ∷ ms) = open_other refl
+list_is_open (Fail ∷ ms) = open_other refl
+list_is_open (Leave height ∷ ms) = open_other refl
+list_is_open (Raise ball ∷ ms) = open_other refl
+list_is_open (Meet ball catcher recovery ∷ ms) = open_other refl
+list_is_open (Gather height template ∷ ms) = open_other refl
+
+pub open_twice : (ms : List Member) → open_list (open_list ms) ≡ open_list ms
+open_twice ms = open_is (list_is_open ms)
+
 -- ---- lists
 
 -- a body whose variables are not used yet
@@ -157,41 +227,61 @@ is_run q v (If a b) e = absurd (cc)
 is_run q v (Choose a b c) e = absurd (cc)
 
 -- bodies that are equal, before lists that are the same
-pub put_alike : (r q : Subst) (ms ns : List Member) (b c : Body) (mark : ℕ) → map_body r b ≡ map_body q c → SameList r q ms ns → SameList r q (put b mark ms) (put c mark ns)
-put_alike r q ms ns (And x y) c mark same others =
+pub put_alike : (r q : Subst) (ms ns : List Member) (b c : Body) (mark : ℕ) → map_body r b ≡ map_body q c → SameList r q ms ns → SameList r q (Goal b mark ∷ ms) (Goal c mark ∷ ns)
+put_alike r q ms ns b c mark same others = same_construct same others
+
+-- so with conjunctions in front taken apart
+body_opened : (r q : Subst) (ms ns : List Member) (b c : Body) (mark : ℕ) → map_body r b ≡ map_body q c → SameList r q ms ns
+    → SameList r q (open_body b mark ms) (open_body c mark ns)
+body_opened r q ms ns (And x y) c mark same others =
     let p = parts_of_and q (map_body r x) (map_body r y) c same in
-    subst (λ (d : Body). SameList r q (put x mark (put y mark ms)) (put d mark ns)) (sym p.2)
-    (put_alike r q (put y mark ms) (put p.1 mark ns) x p.0 mark p.3 (put_alike r q ms ns y p.1 mark p.4 others))
-put_alike r q ms ns Cut c mark same others =
-    subst (λ (d : Body). SameList r q (Goal Cut mark ∷ ms) (put d mark ns)) (sym (is_cut q c same)) (same_construct refl others)
-put_alike r q ms ns (Run t) c mark same others =
+    subst (λ (d : Body). SameList r q (open_body x mark (Goal y mark ∷ ms)) (open_body d mark ns)) (sym p.2)
+    (body_opened r q (Goal y mark ∷ ms) (Goal p.1 mark ∷ ns) x p.0 mark p.3 (put_alike r q ms ns y p.1 mark p.4 others))
+body_opened r q ms ns Cut c mark same others =
+    subst (λ (d : Body). SameList r q (Goal Cut mark ∷ ms) (open_body d mark ns)) (sym (is_cut q c same)) (same_construct refl others)
+body_opened r q ms ns (Run t) c mark same others =
     let p = is_run q (apply r t) c same in
-    subst (λ (d : Body). SameList r q (Goal (Run t) mark ∷ ms) (put d mark ns)) (sym p.1) (same_goal p.2 others)
-put_alike r q ms ns (Or x y) c mark same others =
+    subst (λ (d : Body). SameList r q (Goal (Run t) mark ∷ ms) (open_body d mark ns)) (sym p.1) (same_goal p.2 others)
+body_opened r q ms ns (Or x y) c mark same others =
     let p = parts_of_or q (map_body r x) (map_body r y) c same in
-    subst (λ (d : Body). SameList r q (Goal (Or x y) mark ∷ ms) (put d mark ns)) (sym p.2) (same_construct (ap₂ Or p.3 p.4) others)
-put_alike r q ms ns (If x y) c mark same others =
+    subst (λ (d : Body). SameList r q (Goal (Or x y) mark ∷ ms) (open_body d mark ns)) (sym p.2) (same_construct (ap₂ Or p.3 p.4) others)
+body_opened r q ms ns (If x y) c mark same others =
     let p = parts_of_if q (map_body r x) (map_body r y) c same in
-    subst (λ (d : Body). SameList r q (Goal (If x y) mark ∷ ms) (put d mark ns)) (sym p.2) (same_construct (ap₂ If p.3 p.4) others)
-put_alike r q ms ns (Choose x y z) c mark same others =
+    subst (λ (d : Body). SameList r q (Goal (If x y) mark ∷ ms) (open_body d mark ns)) (sym p.2) (same_construct (ap₂ If p.3 p.4) others)
+body_opened r q ms ns (Choose x y z) c mark same others =
     let p = parts_of_choose q (map_body r x) (map_body r y) (map_body r z) c same in
     let first = p.4 in
     let second = p.5 in
     let third = p.6 in
-    subst (λ (d : Body). SameList r q (Goal (Choose x y z) mark ∷ ms) (put d mark ns)) (sym p.3) (same_construct (λ i. Choose (first i) (second i) (third i)) others)
+    subst (λ (d : Body). SameList r q (Goal (Choose x y z) mark ∷ ms) (open_body d mark ns)) (sym p.3) (same_construct (λ i. Choose (first i) (second i) (third i)) others)
 
-before_same : (r q : Subst) (ms ns : List Member) (n : ℕ) (b : Body) (mark : ℕ) → ((x : ℕ) → n ≤ x → r x ≡ q x) → SameList r q (flat ms) (flat ns)
-    → SameList r q (flat (before (map_body (λ k. Variable (n + k)) b) mark ms)) (flat (before (map_body (λ k. Variable (n + k)) b) mark ns))
+pub list_opened : {r q : Subst} {ms ns : List Member} → SameList r q ms ns → SameList r q (open_list ms) (open_list ns)
+list_opened no_member = no_member
+list_opened (same_goal value others) = same_goal value others
+list_opened {r} {q} (same_construct {b = b} {c = c} {m = m} {ms = ms} {ns = ns} same others) = body_opened r q ms ns b c m same others
+list_opened (same_cut others) = same_cut others
+list_opened (same_failure others) = same_failure others
+list_opened (same_leave others) = same_leave others
+list_opened (same_ball others) = same_ball others
+list_opened (same_meeting catcher recovery others) = same_meeting catcher recovery others
+list_opened (same_gathering value others) = same_gathering value others
+
+-- states whose lists are the same
+pub same_lists : {s t : State} → Around s t → SameList s.subst t.subst s.list t.list → Same s t
+same_lists at list = going at (list_opened list)
+
+before_same : (r q : Subst) (ms ns : List Member) (n : ℕ) (b : Body) (mark : ℕ) → ((x : ℕ) → n ≤ x → r x ≡ q x) → SameList r q ms ns
+    → SameList r q ((before (map_body (λ k. Variable (n + k)) b) mark ms)) ((before (map_body (λ k. Variable (n + k)) b) mark ns))
 before_same r q ms ns n b mark beyond others =
     let c = map_body (λ k. Variable (n + k)) b in
-    elim (is_true c) as (λ fact. SameList r q (flat (if fact then ms else Goal c mark ∷ ms)) (flat (if fact then ns else Goal c mark ∷ ns))) [
+    elim (is_true c) as (λ fact. SameList r q ((if fact then ms else Goal c mark ∷ ms)) ((if fact then ns else Goal c mark ∷ ns))) [
       | true ↦ others
-      | false ↦ put_alike r q (flat ms) (flat ns) c c mark (body_new r q n b beyond) others
+      | false ↦ put_alike r q ms ns c c mark (body_new r q n b beyond) others
     ]
 
-pub list_same : {r : Subst} (ms : List Member) → SameList r r (flat ms) (flat ms)
+pub list_same : {r : Subst} (ms : List Member) → SameList r r ms ms
 list_same [] = no_member
-list_same {r} (Goal b mark ∷ ms) = put_alike r r (flat ms) (flat ms) b b mark refl (list_same ms)
+list_same {r} (Goal b mark ∷ ms) = put_alike r r ms ms b b mark refl (list_same ms)
 list_same (CutTo height ∷ ms) = same_cut (list_same ms)
 list_same (Fail ∷ ms) = same_failure (list_same ms)
 list_same (Leave height ∷ ms) = same_leave (list_same ms)
@@ -228,7 +318,7 @@ gathered_own r (Offered left rights) v own = own
 gathered_own r (Groups by groups) v own = own
 
 -- the same copy comes to both
-gathered_first : {vs ws : List ℕ} (a b : Alternative) {xs ys : List Alternative} (v : Tree) (here : Bool) → Agree a.subst b.subst vs ws a.next → a.next ≡ b.next → a.built ≤ b.built → SameList a.subst b.subst (flat a.list) (flat b.list) → a.left ≡ b.left
+gathered_first : {vs ws : List ℕ} (a b : Alternative) {xs ys : List Alternative} (v : Tree) (here : Bool) → Agree a.subst b.subst vs ws a.next → a.next ≡ b.next → a.built ≤ b.built → SameList a.subst b.subst a.list b.list → a.left ≡ b.left
     → IsOwnLeft a.subst a.left → IsOwnLeft b.subst b.left → SameStack vs ws xs ys
     → SameStack vs ws ((if here then record a { left = gathered a.left v } else a) ∷ xs) ((if here then record b { left = gathered b.left v } else b) ∷ ys)
 gathered_first a b v true agree next built list left own other others =
@@ -252,7 +342,7 @@ fails_same : {s t : State} → Beside s t → Same (fails s) (fails t)
 fails_same h = failing [] [] refl refl (record { stack = h.stack; world = h.world; steps = h.steps; query = h.query; built = h.built })
 
 -- a clause was met, with the same unifier of the two calls with its head
-entered_same : (s t : State) (ms ns : List Member) (o : Option Subst) (a b : Tree) (c : Clause) (mark : ℕ) → AreValues s.subst t.subst a b → IsUnifierOf a b o → Around s t → SameList s.subst t.subst (flat ms) (flat ns)
+entered_same : (s t : State) (ms ns : List Member) (o : Option Subst) (a b : Tree) (c : Clause) (mark : ℕ) → AreValues s.subst t.subst a b → IsUnifierOf a b o → Around s t → SameList s.subst t.subst ms ns
     → Same (entered (under s.subst o) c s.next mark ms (record s { next = s.next + c.variables; built = s.built + clause_size c }))
     (entered (under t.subst o) c t.next mark ns (record t { next = t.next + c.variables; built = t.built + clause_size c }))
 entered_same s t ms ns None a b c mark are is at list = failing [] [] refl refl (record { stack = at.beside.stack; world = at.beside.world; steps = at.beside.steps; query = at.beside.query; built = grown (clause_size c) at.beside.built })
@@ -260,12 +350,12 @@ entered_same s t ms ns (Some u) a b c mark are is at list =
     let r = compose s.subst u in
     let q = compose t.subst u in
     let agree = agree_on u a b are is at.agree in
-    let lists : SameList r q (flat (before (map_body (λ k. Variable (s.next + k)) c.body) mark ms)) (flat (before (map_body (λ k. Variable (t.next + k)) c.body) mark ns)) =
-    subst (λ (n : ℕ). SameList r q (flat (before (map_body (λ k. Variable (s.next + k)) c.body) mark ms)) (flat (before (map_body (λ k. Variable (n + k)) c.body) mark ns))) at.next
+    let lists : SameList r q ((before (map_body (λ k. Variable (s.next + k)) c.body) mark ms)) ((before (map_body (λ k. Variable (t.next + k)) c.body) mark ns)) =
+    subst (λ (n : ℕ). SameList r q ((before (map_body (λ k. Variable (s.next + k)) c.body) mark ms)) ((before (map_body (λ k. Variable (n + k)) c.body) mark ns))) at.next
     (before_same r q ms ns s.next c.body mark agree.beyond (list_on u list)) in
-    going (record { agree = agree_more c.variables agree; next = ap (λ (n : ℕ). n + c.variables) at.next; beside = record { stack = at.beside.stack; world = at.beside.world; steps = at.beside.steps; query = at.beside.query; built = grown (clause_size c) at.beside.built } }) lists
+    same_lists (record { agree = agree_more c.variables agree; next = ap (λ (n : ℕ). n + c.variables) at.next; beside = record { stack = at.beside.stack; world = at.beside.world; steps = at.beside.steps; query = at.beside.query; built = grown (clause_size c) at.beside.built } }) lists
 
-others_same : (s t : State) (ms ns : List Member) (call : Tree) (cs : List Clause) → IsValue s.subst call → IsValue t.subst call → Around s t → SameList s.subst t.subst (flat ms) (flat ns) → Around (with_others call cs ms s) (with_others call cs ns t)
+others_same : (s t : State) (ms ns : List Member) (call : Tree) (cs : List Clause) → IsValue s.subst call → IsValue t.subst call → Around s t → SameList s.subst t.subst ms ns → Around (with_others call cs ms s) (with_others call cs ns t)
 others_same s t ms ns call [] own other at list = at
 others_same s t ms ns call (c ∷ cs) own other at list = record {
   agree = at.agree;
@@ -278,7 +368,7 @@ others_value : (v call : Tree) (cs : List Clause) (ms : List Member) (s : State)
 others_value v call [] ms s own = own
 others_value v call (c ∷ cs) ms s own = own
 
-clause_same : (s t : State) (ms ns : List Member) (call : Tree) (c : Clause) (mark : ℕ) → IsValue s.subst call → IsValue t.subst call → Around s t → SameList s.subst t.subst (flat ms) (flat ns)
+clause_same : (s t : State) (ms ns : List Member) (call : Tree) (c : Clause) (mark : ℕ) → IsValue s.subst call → IsValue t.subst call → Around s t → SameList s.subst t.subst ms ns
     → Same (tried_clause call c mark ms s) (tried_clause call c mark ns t)
 clause_same s t ms ns call c mark own other at list =
     let head = apply s.subst (renamed s.next c.head) in
@@ -294,31 +384,31 @@ clause_same s t ms ns call c mark own other at list =
     subst (λ (p : Option Subst). Same (tried_clause call c mark ms s) (entered (under t.subst p) c t.next mark ns (record t { next = t.next + c.variables; built = t.built + clause_size c }))) same
     (entered_same s t ms ns o call head c mark are (unifier_of_is call head) at list)
 
-others_list : (s t : State) (ms ns : List Member) (call : Tree) (cs : List Clause) → SameList s.subst t.subst (flat ms) (flat ns)
-    → SameList (with_others call cs ms s).subst (with_others call cs ns t).subst (flat ms) (flat ns)
+others_list : (s t : State) (ms ns : List Member) (call : Tree) (cs : List Clause) → SameList s.subst t.subst ms ns
+    → SameList (with_others call cs ms s).subst (with_others call cs ns t).subst ms ns
 others_list s t ms ns call [] list = list
 others_list s t ms ns call (c ∷ cs) list = list
 
-pub tried_same : (s t : State) (ms ns : List Member) (call : Tree) (cs : List Clause) → IsValue s.subst call → IsValue t.subst call → Around s t → SameList s.subst t.subst (flat ms) (flat ns) → Same (tried call cs ms s) (tried call cs ns t)
+pub tried_same : (s t : State) (ms ns : List Member) (call : Tree) (cs : List Clause) → IsValue s.subst call → IsValue t.subst call → Around s t → SameList s.subst t.subst ms ns → Same (tried call cs ms s) (tried call cs ns t)
 tried_same s t ms ns call [] own other at list = fails_same at.beside
 tried_same s t ms ns call (c ∷ cs) own other at list =
     let one = clause_same (with_others call cs ms s) (with_others call cs ns t) ms ns call c (length s.stack) (others_value call call cs ms s own) (others_value call call cs ns t other) (others_same s t ms ns call cs own other at list) (others_list s t ms ns call cs list) in
     subst (λ (h : ℕ). Same (tried call (c ∷ cs) ms s) (tried_clause call c h ns (with_others call cs ns t))) (stack_length at.beside.stack) one
 
-unknown_same : (s t : State) (ms ns : List Member) (u : Unknown) (k : Key) → Around s t → SameList s.subst t.subst (flat ms) (flat ns) → Same (unknown_called u k ms s) (unknown_called u k ns t)
+unknown_same : (s t : State) (ms ns : List Member) (u : Unknown) (k : Key) → Around s t → SameList s.subst t.subst ms ns → Same (unknown_called u k ms s) (unknown_called u k ns t)
 unknown_same s t ms ns on_unknown.Error k at list =
-    going (record { agree = at.agree; next = at.next; beside = record { stack = at.beside.stack; world = at.beside.world; steps = at.beside.steps; query = at.beside.query; built = at.beside.built } }) (same_ball list)
+    same_lists (record { agree = at.agree; next = at.next; beside = record { stack = at.beside.stack; world = at.beside.world; steps = at.beside.steps; query = at.beside.query; built = at.beside.built } }) (same_ball list)
 unknown_same s t ms ns on_unknown.Fail k at list = fails_same at.beside
 
-called_same : (s t : State) (ms ns : List Member) (cs : Option (List Clause)) (k : Key) (v : Tree) → IsValue s.subst v → IsValue t.subst v → Around s t → SameList s.subst t.subst (flat ms) (flat ns) → Same (called cs k v ms s) (called cs k v ns t)
+called_same : (s t : State) (ms ns : List Member) (cs : Option (List Clause)) (k : Key) (v : Tree) → IsValue s.subst v → IsValue t.subst v → Around s t → SameList s.subst t.subst ms ns → Same (called cs k v ms s) (called cs k v ns t)
 called_same s t ms ns (Some cs) k v own other at list = tried_same s t ms ns v cs own other at list
 called_same s t ms ns None k v own other at list =
     subst (λ (w : World). Same (unknown_called s.world.flags.unknown k ms s) (unknown_called w.flags.unknown k ns t)) at.beside.world (unknown_same s t ms ns s.world.flags.unknown k at list)
 
-equated_same : (s t : State) (ms ns : List Member) (made : ℕ) (o : Option Subst) (a b : Tree) → AreValues s.subst t.subst a b → IsUnifierOf a b o → Around s t → SameList s.subst t.subst (flat ms) (flat ns)
+equated_same : (s t : State) (ms ns : List Member) (made : ℕ) (o : Option Subst) (a b : Tree) → AreValues s.subst t.subst a b → IsUnifierOf a b o → Around s t → SameList s.subst t.subst ms ns
     → Same (equated (under s.subst o) ms (record s { built = s.built + made })) (equated (under t.subst o) ns (record t { built = t.built + made }))
 equated_same s t ms ns made None a b are is at list = failing [] [] refl refl (record { stack = at.beside.stack; world = at.beside.world; steps = at.beside.steps; query = at.beside.query; built = grown made at.beside.built })
-equated_same s t ms ns made (Some u) a b are is at list = going (record { agree = agree_on u a b are is at.agree; next = at.next; beside = record { stack = at.beside.stack; world = at.beside.world; steps = at.beside.steps; query = at.beside.query; built = grown made at.beside.built } }) (list_on u list)
+equated_same s t ms ns made (Some u) a b are is at list = same_lists (record { agree = agree_on u a b are is at.agree; next = at.next; beside = record { stack = at.beside.stack; world = at.beside.world; steps = at.beside.steps; query = at.beside.query; built = grown made at.beside.built } }) (list_on u list)
 
 -- a term with other variables, none of which is used yet
 copied_same : (r q : Subst) (n : ℕ) (t : Tree) → ((x : ℕ) → n ≤ x → r x ≡ q x) → apply r (copy_from t n) ≡ apply q (copy_from t n)
@@ -327,16 +417,16 @@ copied_same r q n t beyond =
     apply_apply new r t ∙ (apply_same (compose new r) (compose new q) t (λ x o. beyond (n + place_of x (variables t)) (omega arith)) ∙ sym (apply_apply new q t))
 
 -- a term was unified with a copy, or not
-copy_equated_same : (s t : State) (ms ns : List Member) (made : ℕ) (o : Option Subst) (a b c : Tree) → AreValues s.subst t.subst a c → IsUnifierOf a c o → Around s t → SameList s.subst t.subst (flat ms) (flat ns)
+copy_equated_same : (s t : State) (ms ns : List Member) (made : ℕ) (o : Option Subst) (a b c : Tree) → AreValues s.subst t.subst a c → IsUnifierOf a c o → Around s t → SameList s.subst t.subst ms ns
     → Same (equated (under s.subst o) ms (with_copy made b s)) (equated (under t.subst o) ns (with_copy made b t))
 copy_equated_same s t ms ns made None a b c are is at list = failing [] [] refl refl (record { stack = at.beside.stack; world = at.beside.world; steps = at.beside.steps; query = at.beside.query; built = grown made at.beside.built })
-copy_equated_same s t ms ns made (Some u) a b c are is at list = going (record {
+copy_equated_same s t ms ns made (Some u) a b c are is at list = same_lists (record {
   agree = agree_more (variable_count b) (agree_on u a c are is at.agree);
   next = ap (λ (n : ℕ). n + variable_count b) at.next;
   beside = record { stack = at.beside.stack; world = at.beside.world; steps = at.beside.steps; query = at.beside.query; built = grown made at.beside.built };
 }) (list_on u list)
 
-copies_same : (s t : State) (ms ns : List Member) (made : ℕ) (a b : Tree) → IsValue s.subst a → IsValue t.subst a → Around s t → SameList s.subst t.subst (flat ms) (flat ns)
+copies_same : (s t : State) (ms ns : List Member) (made : ℕ) (a b : Tree) → IsValue s.subst a → IsValue t.subst a → Around s t → SameList s.subst t.subst ms ns
     → SameOut (Goes (equated_copy made a b ms s)) (Goes (equated_copy made a b ns t))
 copies_same s t ms ns made a b own other at list =
     let c = apply s.subst (copy_from b s.next) in
@@ -351,28 +441,28 @@ copies_same s t ms ns made a b own other at list =
     (both_go (copy_equated_same s t ms ns made (unifier_of a c) a b c are (unifier_of_is a c) at list))
 
 -- an alternative before the stack, and then these lists
-pushed_same : (s t : State) (left : Left) (xs ys ms ns : List Member) → IsOwnLeft s.subst left → IsOwnLeft t.subst left → Around s t → SameList s.subst t.subst (flat xs) (flat ys) → SameList s.subst t.subst (flat ms) (flat ns)
+pushed_same : (s t : State) (left : Left) (xs ys ms ns : List Member) → IsOwnLeft s.subst left → IsOwnLeft t.subst left → Around s t → SameList s.subst t.subst xs ys → SameList s.subst t.subst ms ns
     → Same (record (pushed xs left s) { list = ms }) (record (pushed ys left t) { list = ns })
 pushed_same s t left xs ys ms ns own other at kept list =
-    going (record {
+    same_lists (record {
       agree = at.agree;
       next = at.next;
       beside = record { stack = same_alternative at.agree at.next at.beside.built kept refl own other at.beside.stack; world = at.beside.world; steps = at.beside.steps; query = at.beside.query; built = at.beside.built };
     }) list
 
 -- so where the goal that is run is counted behind it
-pushed_goal_same : (s t : State) (left : Left) (b : Body) (xs ys ms ns : List Member) → IsOwnLeft s.subst left → IsOwnLeft t.subst left → Around s t → SameList s.subst t.subst (flat xs) (flat ys) → SameList s.subst t.subst (flat ms) (flat ns)
+pushed_goal_same : (s t : State) (left : Left) (b : Body) (xs ys ms ns : List Member) → IsOwnLeft s.subst left → IsOwnLeft t.subst left → Around s t → SameList s.subst t.subst xs ys → SameList s.subst t.subst ms ns
     → Same (record (with_goal b (pushed xs left s)) { list = ms }) (record (with_goal b (pushed ys left t)) { list = ns })
 pushed_goal_same s t left b xs ys ms ns own other at kept list =
-    going (record {
+    same_lists (record {
       agree = at.agree;
       next = at.next;
       beside = record { stack = same_alternative at.agree at.next at.beside.built kept refl own other at.beside.stack; world = at.beside.world; steps = at.beside.steps; query = at.beside.query; built = grown (size (body_term b)) at.beside.built };
     }) list
 
 -- the states with other lists, and whatever was built
-listed_same : (s t : State) (ms ns : List Member) (m n : ℕ) → m ≤ n → Around s t → SameList s.subst t.subst (flat ms) (flat ns) → Same (record s { list = ms; built = m }) (record t { list = ns; built = n })
-listed_same s t ms ns m n more at list = going (record { agree = at.agree; next = at.next; beside = record { stack = at.beside.stack; world = at.beside.world; steps = at.beside.steps; query = at.beside.query; built = more } }) list
+listed_same : (s t : State) (ms ns : List Member) (m n : ℕ) → m ≤ n → Around s t → SameList s.subst t.subst ms ns → Same (record s { list = ms; built = m }) (record t { list = ns; built = n })
+listed_same s t ms ns m n more at list = same_lists (record { agree = at.agree; next = at.next; beside = record { stack = at.beside.stack; world = at.beside.world; steps = at.beside.steps; query = at.beside.query; built = more } }) list
 
 -- the template of a goal that gathers is made in both
 more_with : (c : Collecting) {m n : ℕ} → m ≤ n → built_with c m ≤ built_with c n
@@ -391,7 +481,7 @@ template_same s t c at = record {
 -- the result is unified with the list of the items
 witnessed_same : (s t : State) (ms ns : List Member) (o : Option Subst) (by : Grouping) (a solutions : Tree) (g : Tree) (made : ℕ)
     → AreValues s.subst t.subst by.result by.result → AreValues s.subst t.subst a (row (witnesses solutions)) → IsUnifierOf a (row (witnesses solutions)) o
-    → IsValue s.subst solutions → IsValue t.subst solutions → Around s t → SameList s.subst t.subst (flat ms) (flat ns)
+    → IsValue s.subst solutions → IsValue t.subst solutions → Around s t → SameList s.subst t.subst ms ns
     → Same (witnessed (under s.subst o) by solutions ms (with_copy made g s)) (witnessed (under t.subst o) by solutions ns (with_copy made g t))
 witnessed_same s t ms ns None by a solutions g made own are is first second at list =
     failing [] [] refl refl (record { stack = at.beside.stack; world = at.beside.world; steps = at.beside.steps; query = at.beside.query; built = grown made at.beside.built })
@@ -426,7 +516,7 @@ repeated_value r w [] own = refl
 repeated_value r w (t ∷ ts) own = ap₂ More own (repeated_value r w ts own)
 
 group_same : (s t : State) (ms ns : List Member) (by : Grouping) (g : List Tree) → IsValue s.subst by.witness × IsValue s.subst by.result → IsValue t.subst by.witness × IsValue t.subst by.result
-    → Around s t → SameList s.subst t.subst (flat ms) (flat ns) → Same (tried_group by g ms s) (tried_group by g ns t)
+    → Around s t → SameList s.subst t.subst ms ns → Same (tried_group by g ms s) (tried_group by g ns t)
 group_same s t ms ns by g own other at list =
     let l = list_of g in
     let c = apply s.subst (copy_from l s.next) in
@@ -446,7 +536,7 @@ group_same s t ms ns by g own other at list =
 
 -- the groups that are left come to both
 groups_same : (s t : State) (ms ns : List Member) (by : Grouping) (gs : List (List Tree)) → IsValue s.subst by.witness × IsValue s.subst by.result → IsValue t.subst by.witness × IsValue t.subst by.result
-    → Around s t → SameList s.subst t.subst (flat ms) (flat ns) → Around (with_groups by gs ms s) (with_groups by gs ns t)
+    → Around s t → SameList s.subst t.subst ms ns → Around (with_groups by gs ms s) (with_groups by gs ns t)
 groups_same s t ms ns by [] own other at list = at
 groups_same s t ms ns by (g ∷ gs) own other at list = record {
   agree = at.agree;
@@ -455,24 +545,24 @@ groups_same s t ms ns by (g ∷ gs) own other at list = record {
 }
 
 grouped_same : (s t : State) (ms ns : List Member) (by : Grouping) (gs : List (List Tree)) → IsValue s.subst by.witness × IsValue s.subst by.result → IsValue t.subst by.witness × IsValue t.subst by.result
-    → Around s t → SameList s.subst t.subst (flat ms) (flat ns) → Same (grouped by gs ms s) (grouped by gs ns t)
+    → Around s t → SameList s.subst t.subst ms ns → Same (grouped by gs ms s) (grouped by gs ns t)
 grouped_same s t ms ns by [] own other at list = fails_same at.beside
 grouped_same s t ms ns by (g ∷ []) own other at list = group_same s t ms ns by g own other at list
 grouped_same s t ms ns by (g ∷ h ∷ gs) own other at list =
     group_same (with_groups by (h ∷ gs) ms s) (with_groups by (h ∷ gs) ns t) ms ns by g own other (groups_same s t ms ns by (h ∷ gs) own other at list) list
 
 collected_same : (s t : State) (ms ns : List Member) (c : Collecting) (copies : List Tree) → IsOwnCollecting s.subst c → IsOwnCollecting t.subst c → Around s t
-    → SameList s.subst t.subst (flat ms) (flat ns) → SameOut (Goes (collected c copies ms s)) (Goes (collected c copies ns t))
+    → SameList s.subst t.subst ms ns → SameOut (Goes (collected c copies ms s)) (Goes (collected c copies ns t))
 collected_same s t ms ns (AsList result) copies own other at list = copies_same s t ms ns (size (list_of copies)) result (list_of copies) own other at list
 collected_same s t ms ns (InGroups by) copies own other at list = both_go (grouped_same s t ms ns by (groups_of copies) own other at list)
 
 -- a goal's converted body, which both substitutions leave as it is
-own_put : (r q : Subst) (b : Body) (mark : ℕ) (ms ns : List Member) → IsOwnBody r b → IsOwnBody q b → SameList r q (flat ms) (flat ns) → SameList r q (put b mark (flat ms)) (put b mark (flat ns))
-own_put r q b mark ms ns own other list = put_alike r q (flat ms) (flat ns) b b mark (own ∙ sym other) list
+own_put : (r q : Subst) (b : Body) (mark : ℕ) (ms ns : List Member) → IsOwnBody r b → IsOwnBody q b → SameList r q ms ns → SameList r q (Goal b mark ∷ ms) (Goal b mark ∷ ns)
+own_put r q b mark ms ns own other list = put_alike r q ms ns b b mark (own ∙ sym other) list
 
 -- the rows that are left come to both
 rights_same : (s t : State) (ms ns : List Member) (left : Tree) (os : List Offer) → IsValue s.subst left → IsValue t.subst left → Around s t
-    → SameList s.subst t.subst (flat ms) (flat ns) → Around (with_rights left os ms s) (with_rights left os ns t)
+    → SameList s.subst t.subst ms ns → Around (with_rights left os ms s) (with_rights left os ns t)
 rights_same s t ms ns left [] own other at list = at
 rights_same s t ms ns left (u ∷ us) own other at list = record {
   agree = at.agree;
@@ -486,17 +576,17 @@ rights_subst left [] ms s = refl
 rights_subst left (u ∷ us) ms s = refl
 
 -- a row was met, with the same unifier of the left one with it
-taken_same : (s t : State) (ms ns : List Member) (o : Option Subst) (a b : Tree) (offer : Offer) → AreValues s.subst t.subst a b → IsUnifierOf a b o → Around s t → SameList s.subst t.subst (flat ms) (flat ns)
+taken_same : (s t : State) (ms ns : List Member) (o : Option Subst) (a b : Tree) (offer : Offer) → AreValues s.subst t.subst a b → IsUnifierOf a b o → Around s t → SameList s.subst t.subst ms ns
     → Same (taken (under s.subst o) offer.removes ms (record s { next = s.next + offer.variables; built = s.built + offer.made }))
     (taken (under t.subst o) offer.removes ns (record t { next = t.next + offer.variables; built = t.built + offer.made }))
 taken_same s t ms ns None a b offer are is at list = failing [] [] refl refl (record { stack = at.beside.stack; world = at.beside.world; steps = at.beside.steps; query = at.beside.query; built = grown offer.made at.beside.built })
-taken_same s t ms ns (Some u) a b offer are is at list = going (record {
+taken_same s t ms ns (Some u) a b offer are is at list = same_lists (record {
   agree = agree_more offer.variables (agree_on u a b are is at.agree);
   next = ap (λ (n : ℕ). n + offer.variables) at.next;
   beside = record { stack = at.beside.stack; world = ap (without_removed offer.removes) at.beside.world; steps = at.beside.steps; query = at.beside.query; built = grown offer.made at.beside.built };
 }) (list_on u list)
 
-met_same_right : (s t : State) (ms ns : List Member) (left : Tree) (offer : Offer) → IsValue s.subst left → IsValue t.subst left → Around s t → SameList s.subst t.subst (flat ms) (flat ns)
+met_same_right : (s t : State) (ms ns : List Member) (left : Tree) (offer : Offer) → IsValue s.subst left → IsValue t.subst left → Around s t → SameList s.subst t.subst ms ns
     → Same (met_right left offer ms s) (met_right left offer ns t)
 met_same_right s t ms ns left offer own other at list =
     let right = apply s.subst (renamed s.next offer.right) in
@@ -512,7 +602,7 @@ met_same_right s t ms ns left offer own other at list =
     subst (λ (p : Option Subst). Same (met_right left offer ms s) (taken (under t.subst p) offer.removes ns (record t { next = t.next + offer.variables; built = t.built + offer.made }))) same
     (taken_same s t ms ns o left right offer are (unifier_of_is left right) at list)
 
-right_same : (s t : State) (ms ns : List Member) (left : Tree) (o : Offer) → IsValue s.subst left → IsValue t.subst left → Around s t → SameList s.subst t.subst (flat ms) (flat ns)
+right_same : (s t : State) (ms ns : List Member) (left : Tree) (o : Offer) → IsValue s.subst left → IsValue t.subst left → Around s t → SameList s.subst t.subst ms ns
     → Same (tried_right left o ms s) (tried_right left o ns t)
 right_same s t ms ns left o own other at list =
     subst (λ (w : World). Same (tried_right left o ms s) (if is_there o.removes w then met_right left o ns t else fails t)) at.beside.world
@@ -522,7 +612,7 @@ right_same s t ms ns left o own other at list =
     ])
 
 first_same : (s t : State) (ms ns : List Member) (left : Tree) (o : Offer) (os : List Offer) → IsValue s.subst left → IsValue t.subst left → Around s t
-    → SameList s.subst t.subst (flat ms) (flat ns) → Same (tried_right left o ms (with_rights left os ms s)) (tried_right left o ns (with_rights left os ns t))
+    → SameList s.subst t.subst ms ns → Same (tried_right left o ms (with_rights left os ms s)) (tried_right left o ns (with_rights left os ns t))
 first_same s t ms ns left o os own other at list =
     let p = with_rights left os ms s in
     let q = with_rights left os ns t in
@@ -531,22 +621,22 @@ first_same s t ms ns left o os own other at list =
     right_same p q ms ns left o (rw first own) (rw second other) (rights_same s t ms ns left os own other at list) (rw (first, second) list)
 
 pub offered_same : (s t : State) (ms ns : List Member) (left : Tree) (os : List Offer) → IsValue s.subst left → IsValue t.subst left → Around s t
-    → SameList s.subst t.subst (flat ms) (flat ns) → Same (offered left os ms s) (offered left os ns t)
+    → SameList s.subst t.subst ms ns → Same (offered left os ms s) (offered left os ns t)
 offered_same s t ms ns left [] own other at list = fails_same at.beside
 offered_same s t ms ns left (o ∷ os) own other at list = first_same s t ms ns left o os own other at list
 
-settled_same : (s t : State) (ms ns : List Member) (x : Settled) → IsOwnSettled s.subst x → IsOwnSettled t.subst x → Around s t → SameList s.subst t.subst (flat ms) (flat ns) → Same (settled x ms s) (settled x ns t)
+settled_same : (s t : State) (ms ns : List Member) (x : Settled) → IsOwnSettled s.subst x → IsOwnSettled t.subst x → Around s t → SameList s.subst t.subst ms ns → Same (settled x ms s) (settled x ns t)
 settled_same s t ms ns (Refuses error) own other at list = listed_same s t (Raise error ∷ ms) (Raise error ∷ ns) s.built t.built at.beside.built at (same_ball list)
 settled_same s t ms ns (Changes made w) own other at list =
-    going (record { agree = at.agree; next = at.next; beside = record { stack = at.beside.stack; world = refl; steps = at.beside.steps; query = at.beside.query; built = grown made at.beside.built } }) list
+    same_lists (record { agree = at.agree; next = at.next; beside = record { stack = at.beside.stack; world = refl; steps = at.beside.steps; query = at.beside.query; built = grown made at.beside.built } }) list
 settled_same s t ms ns (Offers left rights) own other at list = offered_same s t ms ns left rights own other at list
 
 -- the same bytes are written
-written_same : (s t : State) (ms ns : List Member) (bytes : List ℕ) → Around s t → SameList s.subst t.subst (flat ms) (flat ns) → SameOut (written bytes ms s) (written bytes ns t)
+written_same : (s t : State) (ms ns : List Member) (bytes : List ℕ) → Around s t → SameList s.subst t.subst ms ns → SameOut (written bytes ms s) (written bytes ns t)
 written_same s t ms ns [] at list = both_go (listed_same s t ms ns s.built t.built at.beside.built at list)
 written_same s t ms ns (b ∷ bytes) at list = both_give (listed_same s t ms ns s.built t.built at.beside.built at list)
 
-replied_same : (s t : State) (ms ns : List Member) (r : Reply) → IsOwnReply s.subst r → IsOwnReply t.subst r → Around s t → SameList s.subst t.subst (flat ms) (flat ns) → SameOut (replied r ms s) (replied r ns t)
+replied_same : (s t : State) (ms ns : List Member) (r : Reply) → IsOwnReply s.subst r → IsOwnReply t.subst r → Around s t → SameList s.subst t.subst ms ns → SameOut (replied r ms s) (replied r ns t)
 replied_same s t ms ns Fails own other at list = both_go (fails_same at.beside)
 replied_same s t ms ns Succeeds own other at list = both_go (listed_same s t ms ns s.built t.built at.beside.built at list)
 replied_same s t ms ns (EquatesCopy a b) own other at list = copies_same s t ms ns (1 + size b) a b own other at list
@@ -598,12 +688,12 @@ replied_same s t ms ns (AsksWorld settles) own other at list =
     subst (λ (y : Settled). SameOut (Goes (settled x ms s)) (Goes (settled y ns t))) same
     (both_go (settled_same s t ms ns x (own s.next s.world) (other s.next s.world) at list))
 
-selected_same : (s t : State) (ms ns : List Member) (b : Option BuiltIn) (k : Key) (v : Tree) → IsValue s.subst v → IsValue t.subst v → Around s t → SameList s.subst t.subst (flat ms) (flat ns) → SameOut (selected b k v ms s) (selected b k v ns t)
+selected_same : (s t : State) (ms ns : List Member) (b : Option BuiltIn) (k : Key) (v : Tree) → IsValue s.subst v → IsValue t.subst v → Around s t → SameList s.subst t.subst ms ns → SameOut (selected b k v ms s) (selected b k v ns t)
 selected_same s t ms ns (Some b) k v own other at list = replied_same s t ms ns (reply b v) (reply_own s.subst b v own) (reply_own t.subst b v other) at list
 selected_same s t ms ns None k v own other at list =
     both_go (subst (λ (w : World). Same (called (clauses_at s.world.database.procedures k) k v ms s) (called (clauses_at w.database.procedures k) k v ns t)) at.beside.world (called_same s t ms ns (clauses_at s.world.database.procedures k) k v own other at list))
 
-run_same : (s t : State) (ms ns : List Member) (k : Option Key) (v : Tree) → IsValue s.subst v → IsValue t.subst v → Around s t → SameList s.subst t.subst (flat ms) (flat ns) → SameOut (run_goal k v ms s) (run_goal k v ns t)
+run_same : (s t : State) (ms ns : List Member) (k : Option Key) (v : Tree) → IsValue s.subst v → IsValue t.subst v → Around s t → SameList s.subst t.subst ms ns → SameOut (run_goal k v ms s) (run_goal k v ns t)
 run_same s t ms ns (Some k) v own other at list = selected_same s t ms ns (built_in k) k v own other at list
 run_same s t ms ns None v own other at list = both_go (fails_same at.beside)
 
@@ -623,25 +713,25 @@ paid_same s t {o} {p} zero m steps world out =
     subst (λ (k : ℕ). SameOut (paid zero s o) (paid k t p)) steps ended
 paid_same s t {o} {p} (suc n) m steps world out = subst (λ (k : ℕ). SameOut (paid (suc n) s o) (paid k t p)) steps (charged_same n out)
 
-retried_same : (s t : State) (ms ns : List Member) (l : Left) → IsOwnLeft s.subst l → IsOwnLeft t.subst l → s.list ≡ ms → t.list ≡ ns → Around s t → SameList s.subst t.subst (flat ms) (flat ns) → SameOut (retried l s) (retried l t)
+retried_same : (s t : State) (ms ns : List Member) (l : Left) → IsOwnLeft s.subst l → IsOwnLeft t.subst l → s.list ≡ ms → t.list ≡ ns → Around s t → SameList s.subst t.subst ms ns → SameOut (retried l s) (retried l t)
 retried_same s t ms ns AsIs own other first second at list =
-    let here : SameList s.subst t.subst (flat s.list) (flat t.list) = rw (first, second) list in
-    both_go (going at here)
+    let here : SameList s.subst t.subst s.list t.list = rw (first, second) list in
+    both_go (same_lists at here)
 retried_same s t ms ns Again own other first second at list =
-    let here : SameList s.subst t.subst (flat s.list) (flat t.list) = rw (first, second) list in
+    let here : SameList s.subst t.subst s.list t.list = rw (first, second) list in
     paid_same s t s.steps t.steps at.beside.steps at.beside.world (both_go (pushed_same s t Again s.list t.list s.list t.list tt tt at here here))
 retried_same s t ms ns (Clauses call cs) own other first second at list =
-    let here : SameList s.subst t.subst (flat s.list) (flat t.list) = rw (first, second) list in
+    let here : SameList s.subst t.subst s.list t.list = rw (first, second) list in
     both_go (tried_same s t s.list t.list call cs own other at here)
 retried_same s t ms ns (Catching catcher recovery) own other first second at list = both_go (fails_same at.beside)
 retried_same s t ms ns (Gathering result copies count) own other first second at list =
-    let here : SameList s.subst t.subst (flat s.list) (flat t.list) = rw (first, second) list in
+    let here : SameList s.subst t.subst s.list t.list = rw (first, second) list in
     collected_same s t s.list t.list result copies own other at here
 retried_same s t ms ns (Groups by groups) own other first second at list =
-    let here : SameList s.subst t.subst (flat s.list) (flat t.list) = rw (first, second) list in
+    let here : SameList s.subst t.subst s.list t.list = rw (first, second) list in
     both_go (grouped_same s t s.list t.list by groups own other at here)
 retried_same s t ms ns (Offered left rights) own other first second at list =
-    let here : SameList s.subst t.subst (flat s.list) (flat t.list) = rw (first, second) list in
+    let here : SameList s.subst t.subst s.list t.list = rw (first, second) list in
     both_go (offered_same s t s.list t.list left rights own other at here)
 
 backtracked_same : {vs ws : List ℕ} {xs ys : List Alternative} (s t : State) → variables s.query ≡ vs → variables t.query ≡ ws → s.world ≡ t.world → s.steps ≡ t.steps → query_size s.query ≤ query_size t.query → SameStack vs ws xs ys
@@ -663,12 +753,12 @@ failing_same s t h = backtracked_same s t refl refl h.world h.steps h.query h.st
 
 -- the entry of a catch, in both stacks
 caught_at_same : {vs ws : List ℕ} (s t : State) (l : Left) (a b : Alternative) (xs ys : List Alternative) (ball : Tree) (o p : Outcome) → variables s.query ≡ vs → variables t.query ≡ ws → Beside s t
-    → Agree a.subst b.subst vs ws a.next → a.next ≡ b.next → a.built ≤ b.built → SameList a.subst b.subst (flat a.list) (flat b.list) → IsOwnLeft a.subst l → IsOwnLeft b.subst l → SameStack vs ws xs ys → SameOut o p
+    → Agree a.subst b.subst vs ws a.next → a.next ≡ b.next → a.built ≤ b.built → SameList a.subst b.subst a.list b.list → IsOwnLeft a.subst l → IsOwnLeft b.subst l → SameStack vs ws xs ys → SameOut o p
     → SameOut (caught_at l a xs ball s o) (caught_at l b ys ball t p)
 caught_at_same {vs} {ws} s t (Catching catcher recovery) a b xs ys ball o p first second h agree next built list own other others out =
     let known : Agree a.subst b.subst (variables s.query) (variables t.query) a.next = rw (first, second) agree in
     let stack : SameStack (variables s.query) (variables t.query) xs ys = rw (first, second) others in
-    both_go (going (record { agree = known; next = next; beside = record { stack = stack; world = h.world; steps = h.steps; query = h.query; built = built } })
+    both_go (same_lists (record { agree = known; next = next; beside = record { stack = stack; world = h.world; steps = h.steps; query = h.query; built = built } })
     (same_meeting (own.0 ∙ sym other.0) (own.1 ∙ sym other.1) list))
 caught_at_same s t AsIs a b xs ys ball o p first second h agree next built list own other others out = out
 caught_at_same s t Again a b xs ys ball o p first second h agree next built list own other others out = out
@@ -692,25 +782,7 @@ caught_same s t height ball o p first second h (same_alternative {a = a} {b = b}
       | false ↦ below
     ])
 
--- goals are passed over, and so are conjunctions taken apart
-thrown_put : (ball : Tree) (b : Body) (mark : ℕ) (ms : List Member) (s : State) → thrown ball (put b mark ms) s ≡ thrown ball ms s
-thrown_put ball (And a b) mark ms s = thrown_put ball a mark (put b mark ms) s ∙ thrown_put ball b mark ms s
-thrown_put ball Cut mark ms s = refl
-thrown_put ball (Run t) mark ms s = refl
-thrown_put ball (Or a b) mark ms s = refl
-thrown_put ball (If c t) mark ms s = refl
-thrown_put ball (Choose c t e) mark ms s = refl
-
-thrown_flat : (ball : Tree) (ms : List Member) (s : State) → thrown ball (flat ms) s ≡ thrown ball ms s
-thrown_flat ball [] s = refl
-thrown_flat ball (Goal b mark ∷ ms) s = thrown_put ball b mark (flat ms) s ∙ thrown_flat ball ms s
-thrown_flat ball (CutTo height ∷ ms) s = thrown_flat ball ms s
-thrown_flat ball (Fail ∷ ms) s = thrown_flat ball ms s
-thrown_flat ball (Leave height ∷ ms) s = ap (caught height s.stack ball s) (thrown_flat ball ms s)
-thrown_flat ball (Raise other ∷ ms) s = thrown_flat ball ms s
-thrown_flat ball (Meet other catcher recovery ∷ ms) s = thrown_flat ball ms s
-thrown_flat ball (Gather height template ∷ ms) s = thrown_flat ball ms s
-
+-- goals are passed over
 thrown_same : {r q : Subst} {ms ns : List Member} (s t : State) (ball : Tree) → Beside s t → SameList r q ms ns → SameOut (thrown ball ms s) (thrown ball ns t)
 thrown_same s t ball h no_member = subst (λ (w : World). SameOut (Ends (Uncaught ball) s.world) (Ends (Uncaught ball) w)) h.world both_end
 thrown_same s t ball h (same_goal value list) = thrown_same s t ball h list
@@ -723,11 +795,8 @@ thrown_same s t ball h (same_ball list) = thrown_same s t ball h list
 thrown_same s t ball h (same_meeting catcher recovery list) = thrown_same s t ball h list
 thrown_same s t ball h (same_gathering value list) = thrown_same s t ball h list
 
-thrown_lists : (s t : State) (ball : Tree) (ms ns : List Member) → Beside s t → SameList s.subst t.subst (flat ms) (flat ns) → SameOut (thrown ball ms s) (thrown ball ns t)
-thrown_lists s t ball ms ns h list = rw (thrown_flat ball ms s, thrown_flat ball ns t) at (thrown_same s t ball h list)
-
 -- the catcher met the ball, or not
-met_same : (s t : State) (ms ns : List Member) (o : Option Subst) (a b ball x y : Tree) → AreValues s.subst t.subst a b → IsUnifierOf a b o → apply s.subst x ≡ apply t.subst y → Around s t → SameList s.subst t.subst (flat ms) (flat ns)
+met_same : (s t : State) (ms ns : List Member) (o : Option Subst) (a b ball x y : Tree) → AreValues s.subst t.subst a b → IsUnifierOf a b o → apply s.subst x ≡ apply t.subst y → Around s t → SameList s.subst t.subst ms ns
     → Same (met (under s.subst o) ball x ms (record s { built = s.built + size ball })) (met (under t.subst o) ball y ns (record t { built = t.built + size ball }))
 met_same s t ms ns None a b ball x y are is recovery at list =
     listed_same s t (Raise ball ∷ ms) (Raise ball ∷ ns) (s.built + size ball) (t.built + size ball) (grown (size ball) at.beside.built) at (same_ball list)
@@ -737,13 +806,13 @@ met_same s t ms ns (Some u) a b ball x y are is recovery at list =
     let h = length s.stack in
     let again : apply r x ≡ apply q y = value_on s.subst t.subst u x y recovery in
     let call : apply r (one (codes "call") x) ≡ apply q (one (codes "call") y) = ap (λ (z : Tree). one (codes "call") z) again in
-    going (record {
+    same_lists (record {
       agree = agree_more (variable_count ball) (agree_on u a b are is at.agree);
       next = ap (λ (n : ℕ). n + variable_count ball) at.next;
       beside = record { stack = at.beside.stack; world = at.beside.world; steps = at.beside.steps; query = at.beside.query; built = grown (size ball) at.beside.built };
     }) (same_goal call (list_on u list))
 
-meets_same : (s t : State) (ball c d x y : Tree) (ms ns : List Member) → apply s.subst c ≡ apply t.subst d → apply s.subst x ≡ apply t.subst y → Around s t → SameList s.subst t.subst (flat ms) (flat ns)
+meets_same : (s t : State) (ball c d x y : Tree) (ms ns : List Member) → apply s.subst c ≡ apply t.subst d → apply s.subst x ≡ apply t.subst y → Around s t → SameList s.subst t.subst ms ns
     → Same (meets ball c x ms s) (meets ball d y ns t)
 meets_same s t ball c d x y ms ns catcher recovery at list =
     let a = apply s.subst c in
@@ -763,133 +832,9 @@ meets_same s t ball c d x y ms ns catcher recovery at list =
 answered_same : (s t : State) → Around s t → SameOut (Gives (Answered (values s)) (fails s)) (Gives (Answered (values t)) (fails t))
 answered_same s t at = subst (λ (vs : List Tree). SameOut (Gives (Answered (values s)) (fails s)) (Gives (Answered vs) (fails t))) at.agree.shown (both_give (fails_same at.beside))
 
--- ---- conjunctions taken apart, step by step
-
-abbrev pub is_conjunction : Body → Bool
-is_conjunction (And a b) = true
-is_conjunction Cut = false
-is_conjunction (Run t) = false
-is_conjunction (Or a b) = false
-is_conjunction (If c t) = false
-is_conjunction (Choose c t e) = false
-
-abbrev pub is_goal : Member → Bool
-is_goal (Goal b mark) = true
-is_goal (CutTo height) = false
-is_goal Fail = false
-is_goal (Leave height) = false
-is_goal (Raise ball) = false
-is_goal (Meet ball catcher recovery) = false
-is_goal (Gather height template) = false
-
--- the list's first member is no conjunction
-pub data Open : List Member → Type 0 where
-  open_end : Open []
-  open_goal : {b : Body} {mark : ℕ} {ms : List Member} → is_conjunction b ≡ false → Open (Goal b mark ∷ ms)
-  open_other : {m : Member} {ms : List Member} → is_goal m ≡ false → Open (m ∷ ms)
-
-abbrev pub open_body : Body → ℕ → List Member → List Member
-open_body (And a b) mark ms = open_body a mark (Goal b mark ∷ ms)
-open_body Cut mark ms = Goal Cut mark ∷ ms
-open_body (Run t) mark ms = Goal (Run t) mark ∷ ms
-open_body (Or a b) mark ms = Goal (Or a b) mark ∷ ms
-open_body (If c t) mark ms = Goal (If c t) mark ∷ ms
-open_body (Choose c t e) mark ms = Goal (Choose c t e) mark ∷ ms
-
-abbrev pub open_list : List Member → List Member
-open_list [] = []
-open_list (Goal b mark ∷ ms) = open_body b mark ms
-open_list (CutTo height ∷ ms) = CutTo height ∷ ms
-open_list (Fail ∷ ms) = Fail ∷ ms
-open_list (Leave height ∷ ms) = Leave height ∷ ms
-open_list (Raise ball ∷ ms) = Raise ball ∷ ms
-open_list (Meet ball catcher recovery ∷ ms) = Meet ball catcher recovery ∷ ms
-open_list (Gather height template ∷ ms) = Gather height template ∷ ms
-
--- the state whose first member is no conjunction
-abbrev pub opened : State → State
-opened s = record s { list = open_list s.list }
-
-body_is_open : (b : Body) (mark : ℕ) (ms : List Member) → Open (open_body b mark ms)
-body_is_open (And a b) mark ms = body_is_open a mark (Goal b mark ∷ ms)
-body_is_open Cut mark ms = open_goal refl
-body_is_open (Run t) mark ms = open_goal refl
-body_is_open (Or a b) mark ms = open_goal refl
-body_is_open (If c t) mark ms = open_goal refl
-body_is_open (Choose c t e) mark ms = open_goal refl
-
-pub list_is_open : (ms : List Member) → Open (open_list ms)
-list_is_open [] = open_end
-list_is_open (Goal b mark ∷ ms) = body_is_open b mark ms
-list_is_open (CutTo height ∷ ms) = open_other refl
-list_is_open (Fail ∷ ms) = open_other refl
-list_is_open (Leave height ∷ ms) = open_other refl
-list_is_open (Raise ball ∷ ms) = open_other refl
-list_is_open (Meet ball catcher recovery ∷ ms) = open_other refl
-list_is_open (Gather height template ∷ ms) = open_other refl
-
-pub body_flat : (b : Body) (mark : ℕ) (ms : List Member) → flat (open_body b mark ms) ≡ put b mark (flat ms)
-body_flat (And a b) mark ms = body_flat a mark (Goal b mark ∷ ms)
-body_flat Cut mark ms = refl
-body_flat (Run t) mark ms = refl
-body_flat (Or a b) mark ms = refl
-body_flat (If c t) mark ms = refl
-body_flat (Choose c t e) mark ms = refl
-
-pub list_flat : (ms : List Member) → flat (open_list ms) ≡ flat ms
-list_flat [] = refl
-list_flat (Goal b mark ∷ ms) = body_flat b mark ms
-list_flat (CutTo height ∷ ms) = refl
-list_flat (Fail ∷ ms) = refl
-list_flat (Leave height ∷ ms) = refl
-list_flat (Raise ball ∷ ms) = refl
-list_flat (Meet ball catcher recovery ∷ ms) = refl
-list_flat (Gather height template ∷ ms) = refl
-
-parts_step : (s : State) (a b : Body) (mark : ℕ) (ms : List Member) → step (record s { list = Goal (And a b) mark ∷ ms }) ≡ Goes (record s { list = Goal a mark ∷ Goal b mark ∷ ms })
-unfolding step
-parts_step s a b mark ms = refl
-
-before_quiet : {s t u : State} → step s ≡ Goes t → Quiet t u → Quiet s u
-before_quiet h here = onward here h
-before_quiet h (onward q k) = onward (before_quiet h q) k
-
-body_quiet : (s : State) (b : Body) (mark : ℕ) (ms : List Member) → Quiet (record s { list = Goal b mark ∷ ms }) (record s { list = open_body b mark ms })
-body_quiet s Cut mark ms = here
-body_quiet s (Run t) mark ms = here
-body_quiet s (Or a b) mark ms = here
-body_quiet s (If c t) mark ms = here
-body_quiet s (Choose c t e) mark ms = here
-body_quiet s (And a b) mark ms = before_quiet (parts_step s a b mark ms) (body_quiet s a mark (Goal b mark ∷ ms))
-
-list_quiet : (s : State) (ms : List Member) → Quiet (record s { list = ms }) (record s { list = open_list ms })
-list_quiet s [] = here
-list_quiet s (Goal b mark ∷ ms) = body_quiet s b mark ms
-list_quiet s (CutTo height ∷ ms) = here
-list_quiet s (Fail ∷ ms) = here
-list_quiet s (Leave height ∷ ms) = here
-list_quiet s (Raise ball ∷ ms) = here
-list_quiet s (Meet ball catcher recovery ∷ ms) = here
-list_quiet s (Gather height template ∷ ms) = here
-
--- a state comes quietly to the one whose first member is no conjunction
-pub opens : (s : State) → Quiet s (opened s)
-opens s = list_quiet s s.list
-
--- states with other lists of the same goals
-pub with_lists : (s t : State) (ms ns : List Member) → flat ms ≡ flat s.list → flat ns ≡ flat t.list → ((xs : List Member) → s.list ≡ Fail ∷ xs → ms ≡ Fail ∷ xs) → ((xs : List Member) → t.list ≡ Fail ∷ xs → ns ≡ Fail ∷ xs)
-    → Same s t → Same (record s { list = ms }) (record t { list = ns })
-with_lists s t ms ns first second fail other (going at list) =
-    going (record { agree = at.agree; next = at.next; beside = record { stack = at.beside.stack; world = at.beside.world; steps = at.beside.steps; query = at.beside.query; built = at.beside.built } }) (rw (first, second) list)
-with_lists s t ms ns first second fail other (failing xs ys is are h) = failing xs ys (fail xs is) (other ys are) (record { stack = h.stack; world = h.world; steps = h.steps; query = h.query; built = h.built })
-
--- the second one opened
-pub same_opened : (s t : State) → Same s t → Same s (opened t)
-same_opened s t h = with_lists s t s.list (open_list t.list) refl (list_flat t.list) (λ xs e. e) (λ xs e. ap open_list e) h
-
 -- ---- steps of open states
 
-goal_same : (s t : State) (a b : Tree) (ms ns : List Member) → apply s.subst a ≡ apply t.subst b → Around s t → SameList s.subst t.subst (flat ms) (flat ns)
+goal_same : (s t : State) (a b : Tree) (ms ns : List Member) → apply s.subst a ≡ apply t.subst b → Around s t → SameList s.subst t.subst ms ns
     → SameOut (paid s.steps s (run_value (apply s.subst a) ms s)) (paid t.steps t (run_value (apply t.subst b) ns t))
 goal_same s t a b ms ns value at list =
     let v = apply s.subst a in
@@ -899,69 +844,49 @@ goal_same s t a b ms ns value at list =
     paid_same s t s.steps t.steps at.beside.steps at.beside.world out
 
 -- the same cut
-cut_same : (s t : State) (height : ℕ) (ms ns : List Member) → Around s t → SameList s.subst t.subst (flat ms) (flat ns) → SameOut (Goes (cut_back height ms s)) (Goes (cut_back height ns t))
+cut_same : (s t : State) (height : ℕ) (ms ns : List Member) → Around s t → SameList s.subst t.subst ms ns → SameOut (Goes (cut_back height ms s)) (Goes (cut_back height ns t))
 cut_same s t height ms ns at list =
-    both_go (going (record { agree = at.agree; next = at.next; beside = record { stack = shortened_same height at.beside.stack; world = at.beside.world; steps = at.beside.steps; query = at.beside.query; built = at.beside.built } }) list)
+    both_go (same_lists (record { agree = at.agree; next = at.next; beside = record { stack = shortened_same height at.beside.stack; world = at.beside.world; steps = at.beside.steps; query = at.beside.query; built = at.beside.built } }) list)
 
 -- a condition, the cut behind it, and the next goal
-condition_same : (r q : Subst) (c d x y : Body) (inner height mark : ℕ) (ms ns : List Member) → map_body r c ≡ map_body q d → map_body r x ≡ map_body q y → SameList r q (flat ms) (flat ns)
-    → SameList r q (flat (Goal c inner ∷ CutTo height ∷ Goal x mark ∷ ms)) (flat (Goal d inner ∷ CutTo height ∷ Goal y mark ∷ ns))
+condition_same : (r q : Subst) (c d x y : Body) (inner height mark : ℕ) (ms ns : List Member) → map_body r c ≡ map_body q d → map_body r x ≡ map_body q y → SameList r q ms ns
+    → SameList r q ((Goal c inner ∷ CutTo height ∷ Goal x mark ∷ ms)) ((Goal d inner ∷ CutTo height ∷ Goal y mark ∷ ns))
 condition_same r q c d x y inner height mark ms ns first second others =
-    put_alike r q (CutTo height ∷ put x mark (flat ms)) (CutTo height ∷ put y mark (flat ns)) c d inner first (same_cut (put_alike r q (flat ms) (flat ns) x y mark second others))
+    put_alike r q (CutTo height ∷ Goal x mark ∷ ms) (CutTo height ∷ Goal y mark ∷ ns) c d inner first (same_cut (put_alike r q ms ns x y mark second others))
 
 -- the steps of control constructs that are equal
-construct_same : (s t : State) (b c : Body) (mark : ℕ) (ms ns : List Member) → is_conjunction b ≡ false → map_body s.subst b ≡ map_body t.subst c → Around s t → SameList s.subst t.subst (flat ms) (flat ns)
+construct_same : (s t : State) (b c : Body) (mark : ℕ) (ms ns : List Member) → map_body s.subst b ≡ map_body t.subst c → Around s t → SameList s.subst t.subst ms ns
     → SameOut (step_goal b mark ms s) (step_goal c mark ns t)
-construct_same s t (And x y) c mark ms ns alone same at list = absurd (cc)
-construct_same s t Cut c mark ms ns alone same at list =
+construct_same s t (And x y) c mark ms ns same at list =
+    let p = parts_of_and t.subst (map_body s.subst x) (map_body s.subst y) c same in
+    subst (λ (d : Body). SameOut (step_goal (And x y) mark ms s) (step_goal d mark ns t)) (sym p.2)
+    (both_go (listed_same s t (Goal x mark ∷ Goal y mark ∷ ms) (Goal p.0 mark ∷ Goal p.1 mark ∷ ns) s.built t.built at.beside.built at
+    (put_alike s.subst t.subst (Goal y mark ∷ ms) (Goal p.1 mark ∷ ns) x p.0 mark p.3 (put_alike s.subst t.subst ms ns y p.1 mark p.4 list))))
+construct_same s t Cut c mark ms ns same at list =
     subst (λ (d : Body). SameOut (step_goal Cut mark ms s) (step_goal d mark ns t)) (sym (is_cut t.subst c same)) (cut_same s t mark ms ns at list)
-construct_same s t (Run a) c mark ms ns alone same at list =
+construct_same s t (Run a) c mark ms ns same at list =
     let p = is_run t.subst (apply s.subst a) c same in
     subst (λ (d : Body). SameOut (step_goal (Run a) mark ms s) (step_goal d mark ns t)) (sym p.1) (goal_same s t a p.0 ms ns p.2 at list)
-construct_same s t (Or x y) c mark ms ns alone same at list =
+construct_same s t (Or x y) c mark ms ns same at list =
     let p = parts_of_or t.subst (map_body s.subst x) (map_body s.subst y) c same in
     subst (λ (d : Body). SameOut (step_goal (Or x y) mark ms s) (step_goal d mark ns t)) (sym p.2)
     (both_go (pushed_same s t AsIs (Goal y mark ∷ ms) (Goal p.1 mark ∷ ns) (Goal x mark ∷ ms) (Goal p.0 mark ∷ ns) tt tt at
-    (put_alike s.subst t.subst (flat ms) (flat ns) y p.1 mark p.4 list) (put_alike s.subst t.subst (flat ms) (flat ns) x p.0 mark p.3 list)))
-construct_same s t (If x y) c mark ms ns alone same at list =
+    (put_alike s.subst t.subst ms ns y p.1 mark p.4 list) (put_alike s.subst t.subst ms ns x p.0 mark p.3 list)))
+construct_same s t (If x y) c mark ms ns same at list =
     let p = parts_of_if t.subst (map_body s.subst x) (map_body s.subst y) c same in
     let h = length s.stack in
     let lists = condition_same s.subst t.subst x p.0 y p.1 h h mark ms ns p.3 p.4 list in
-    let one : SameOut (step_goal (If x y) mark ms s) (Goes (record t { list = Goal p.0 h ∷ CutTo h ∷ Goal p.1 mark ∷ ns })) = both_go (going (record { agree = at.agree; next = at.next; beside = record { stack = at.beside.stack; world = at.beside.world; steps = at.beside.steps; query = at.beside.query; built = at.beside.built } }) lists) in
+    let one : SameOut (step_goal (If x y) mark ms s) (Goes (record t { list = Goal p.0 h ∷ CutTo h ∷ Goal p.1 mark ∷ ns })) = both_go (same_lists (record { agree = at.agree; next = at.next; beside = record { stack = at.beside.stack; world = at.beside.world; steps = at.beside.steps; query = at.beside.query; built = at.beside.built } }) lists) in
     subst (λ (d : Body). SameOut (step_goal (If x y) mark ms s) (step_goal d mark ns t)) (sym p.2)
     (subst (λ (k : ℕ). SameOut (step_goal (If x y) mark ms s) (Goes (record t { list = Goal p.0 k ∷ CutTo k ∷ Goal p.1 mark ∷ ns }))) (stack_length at.beside.stack) one)
-construct_same s t (Choose x y z) c mark ms ns alone same at list =
+construct_same s t (Choose x y z) c mark ms ns same at list =
     let p = parts_of_choose t.subst (map_body s.subst x) (map_body s.subst y) (map_body s.subst z) c same in
     let h = length s.stack in
     let lists = condition_same s.subst t.subst x p.0 y p.1 (suc h) h mark ms ns p.4 p.5 list in
     let one = pushed_same s t AsIs (Goal z mark ∷ ms) (Goal p.2 mark ∷ ns) (Goal x (suc h) ∷ CutTo h ∷ Goal y mark ∷ ms) (Goal p.0 (suc h) ∷ CutTo h ∷ Goal p.1 mark ∷ ns) tt tt at
-    (put_alike s.subst t.subst (flat ms) (flat ns) z p.2 mark p.6 list) lists in
+    (put_alike s.subst t.subst ms ns z p.2 mark p.6 list) lists in
     subst (λ (d : Body). SameOut (step_goal (Choose x y z) mark ms s) (step_goal d mark ns t)) (sym p.3)
     (subst (λ (k : ℕ). SameOut (step_goal (Choose x y z) mark ms s) (Goes (record (pushed (Goal p.2 mark ∷ ns) AsIs t) { list = Goal p.0 (suc k) ∷ CutTo k ∷ Goal p.1 mark ∷ ns }))) (stack_length at.beside.stack) (both_go one))
-
--- a body that is no conjunction is one member
-pub put_alone : (b : Body) (mark : ℕ) (ms : List Member) → is_conjunction b ≡ false → put b mark ms ≡ Goal b mark ∷ ms
-put_alone (And a b) mark ms alone = absurd (cc)
-put_alone Cut mark ms alone = refl
-put_alone (Run t) mark ms alone = refl
-put_alone (Or a b) mark ms alone = refl
-put_alone (If c t) mark ms alone = refl
-put_alone (Choose c t e) mark ms alone = refl
-
-goals_same : (s t : State) {b c : Body} {m n : ℕ} (ms ns : List Member) → is_conjunction b ≡ false → Around s t → SameList s.subst t.subst (Goal b m ∷ flat ms) (Goal c n ∷ flat ns)
-    → SameOut (step_goal b m ms s) (step_goal c n ns t)
-goals_same s t ms ns first at (same_goal {t = a} {u = b} value others) = goal_same s t a b ms ns value at others
-goals_same s t ms ns first at (same_construct {b = b} {c = c} {m = m} same others) = construct_same s t b c m ms ns first same at others
-
--- a list whose first member is no goal is its own
-pub flat_other : (m : Member) (ms : List Member) → is_goal m ≡ false → flat (m ∷ ms) ≡ m ∷ flat ms
-flat_other (Goal b mark) ms other = absurd (cc)
-flat_other (CutTo height) ms other = refl
-flat_other Fail ms other = refl
-flat_other (Leave height) ms other = refl
-flat_other (Raise ball) ms other = refl
-flat_other (Meet ball catcher recovery) ms other = refl
-flat_other (Gather height template) ms other = refl
 
 -- a solution is gathered in both
 gathers_same : (s t : State) (height : ℕ) (c d : Tree) → apply s.subst c ≡ apply t.subst d → Around s t
@@ -970,57 +895,22 @@ gathers_same s t height c d value at =
     subst (λ (v : Tree). Same (fails (record s { stack = gathered_at height (apply s.subst c) s.stack })) (fails (record t { stack = gathered_at height v t.stack }))) value
     (fails_same {s = record s { stack = gathered_at height (apply s.subst c) s.stack }} {t = record t { stack = gathered_at height (apply s.subst c) t.stack }} (record { stack = gathered_same height (apply s.subst c) at.beside.stack; world = at.beside.world; steps = at.beside.steps; query = at.beside.query; built = at.beside.built }))
 
-others_alike : (s t : State) {m n : Member} (ms ns : List Member) → is_goal m ≡ false → Around s t → SameList s.subst t.subst (m ∷ flat ms) (n ∷ flat ns) → SameOut (step_list (m ∷ ms) s) (step_list (n ∷ ns) t)
-others_alike s t ms ns other at (same_goal value list) = absurd (cc)
-others_alike s t ms ns other at (same_construct same list) = absurd (cc)
-others_alike s t ms ns other at (same_cut {height = h} list) = cut_same s t h ms ns at list
-others_alike s t ms ns other at (same_failure list) = failing_same s t at.beside
-others_alike s t ms ns other at (same_leave list) = both_go (listed_same s t ms ns s.built t.built at.beside.built at list)
-others_alike s t ms ns other at (same_ball {ball = ball} list) = thrown_lists s t ball ms ns at.beside list
-others_alike s t ms ns other at (same_meeting {ball = ball} {c = c} {d = d} {x = x} {y = y} catcher recovery list) = both_go (meets_same s t ball c d x y ms ns catcher recovery at list)
-others_alike s t ms ns other at (same_gathering {height = h} {c = c} {d = d} value list) = both_go (gathers_same s t h c d value at)
-
--- no list begins with a goal where the other doesn't
-abbrev begins_with_goal : List Member → Bool
-begins_with_goal [] = false
-begins_with_goal (m ∷ ms) = is_goal m
-
-firsts_same : {r q : Subst} {ms ns : List Member} → SameList r q ms ns → begins_with_goal ms ≡ begins_with_goal ns
-firsts_same no_member = refl
-firsts_same (same_goal same others) = refl
-firsts_same (same_construct same others) = refl
-firsts_same (same_cut others) = refl
-firsts_same (same_failure others) = refl
-firsts_same (same_leave others) = refl
-firsts_same (same_ball others) = refl
-firsts_same (same_meeting catcher recovery others) = refl
-firsts_same (same_gathering value others) = refl
-
-no_first : {r q : Subst} {n : Member} {ns : List Member} → SameList r q [] (n ∷ ns) → ⊥
-no_first h = elim h [ ]
-
-no_second : {r q : Subst} {m : Member} {ms : List Member} → SameList r q (m ∷ ms) [] → ⊥
-no_second h = elim h [ ]
-
-lists_same : (s t : State) {ms ns : List Member} → Open ms → Open ns → Around s t → SameList s.subst t.subst (flat ms) (flat ns) → SameOut (step_list ms s) (step_list ns t)
-lists_same s t open_end open_end at list = answered_same s t at
-lists_same s t (open_goal {b = b} {mark = m} {ms = ms} first) (open_goal {b = c} {mark = n} {ms = ns} second) at list =
-    goals_same s t ms ns first at (rw (put_alone b m (flat ms) first, put_alone c n (flat ns) second) at list)
-lists_same s t (open_other {m = m} {ms = ms} first) (open_other {m = n} {ms = ns} second) at list =
-    others_alike s t ms ns first at (rw (flat_other m ms first, flat_other n ns second) at list)
-lists_same s t open_end (open_goal {b = c} {mark = n} {ms = ns} second) at list = absurd (no_first (rw (put_alone c n (flat ns) second) at list))
-lists_same s t open_end (open_other {m = n} {ms = ns} second) at list = absurd (no_first (rw (flat_other n ns second) at list))
-lists_same s t (open_goal {b = b} {mark = m} {ms = ms} first) open_end at list = absurd (no_second (rw (put_alone b m (flat ms) first) at list))
-lists_same s t (open_other {m = m} {ms = ms} first) open_end at list = absurd (no_second (rw (flat_other m ms first) at list))
-lists_same s t (open_goal {b = b} {mark = m} {ms = ms} first) (open_other {m = n} {ms = ns} second) at list =
-    let k = firsts_same (rw (put_alone b m (flat ms) first, flat_other n ns second) at list) in absurd (cc)
-lists_same s t (open_other {m = m} {ms = ms} first) (open_goal {b = c} {mark = n} {ms = ns} second) at list =
-    let k = firsts_same (rw (flat_other m ms first, put_alone c n (flat ns) second) at list) in absurd (cc)
+lists_same : (s t : State) {ms ns : List Member} → Around s t → SameList s.subst t.subst ms ns → SameOut (step_list ms s) (step_list ns t)
+lists_same s t at no_member = answered_same s t at
+lists_same s t at (same_goal {t = a} {u = b} {ms = ms} {ns = ns} value list) = goal_same s t a b ms ns value at list
+lists_same s t at (same_construct {b = b} {c = c} {m = m} {ms = ms} {ns = ns} same list) = construct_same s t b c m ms ns same at list
+lists_same s t at (same_cut {height = h} {ms = ms} {ns = ns} list) = cut_same s t h ms ns at list
+lists_same s t at (same_failure list) = failing_same s t at.beside
+lists_same s t at (same_leave {ms = ms} {ns = ns} list) = both_go (listed_same s t ms ns s.built t.built at.beside.built at list)
+lists_same s t at (same_ball {ball = ball} {ms = ms} {ns = ns} list) = thrown_same s t ball at.beside list
+lists_same s t at (same_meeting {ball = ball} {c = c} {d = d} {x = x} {y = y} {ms = ms} {ns = ns} catcher recovery list) =
+    both_go (meets_same s t ball c d x y ms ns catcher recovery at list)
+lists_same s t at (same_gathering {height = h} {c = c} {d = d} value list) = both_go (gathers_same s t h c d value at)
 
 -- the steps of states that are the same, neither of which begins with a conjunction
 pub steps_alike : (s t : State) → Open s.list → Open t.list → Same s t → SameOut (step s) (step t)
 unfolding step
-steps_alike s t first second (going at list) = lists_same s t first second at list
+steps_alike s t first second (going at list) = lists_same s t at (rw (open_is first, open_is second) at list)
 steps_alike s t first second (failing ms ns is are h) =
     let one : step_list s.list s ≡ backtracked s.stack s = ap (λ (xs : List Member). step_list xs s) is in
     let other : step_list t.list t ≡ backtracked t.stack t = ap (λ (xs : List Member). step_list xs t) are in

@@ -42,7 +42,7 @@ module _ (enters : Tree → Clause → Bool) where
   counts_more (fewer_clauses skips) h = some_more skips h
   counts_more (fewer_rows skips) h = h
 
-  stack_span_less : {ks : List Bool} {xs ys : List Alternative} → ThinStack ks xs ys → stack_span enters xs ≤ stack_span enters ys
+  pub stack_span_less : {ks : List Bool} {xs ys : List Alternative} → ThinStack ks xs ys → stack_span enters xs ≤ stack_span enters ys
   stack_span_less no_alternative = omega arith
   stack_span_less (kept {a = a} {b = b} p q r list left others) =
       let first = counted_more (counts enters a.left) (counts enters b.left) (length a.list) (length b.list) (list_length list) (counts_more left) in

@@ -1,6 +1,6 @@
--- States that are the same: their goals, with conjunctions taken apart, have the same values under each state's own
--- substitution. They have one run, and the first has built no more. By this law an engine may link all goals of a body
--- at once, keep words for terms, and forget the marks that nothing reads.
+-- States that are the same: their lists have the same members, but for the terms, which have the same values under each
+-- state's own substitution. A conjunction that comes first may have been taken apart. They have one run, and the first
+-- has built no more. By this law an engine may keep words for terms, and forget the marks that nothing reads.
 use Rattle.std.specs.Prelude.{◌≡◌, ℕ, ◌≤◌, List, [], ◌∷◌, map}
 use Rattle.iso_model.specs.Terms.Trees.{Tree}
 use Rattle.iso_model.specs.Terms.Variables.{variables}
@@ -17,28 +17,8 @@ IsValue r t = apply r t ≡ t
 abbrev pub IsTwice : Subst → Type 0
 IsTwice r = (n : ℕ) → apply r (r n) ≡ r n
 
--- a body's goals before what follows, its conjunctions taken apart
-abbrev pub put : Body → ℕ → List Member → List Member
-put (And a b) mark rest = put a mark (put b mark rest)
-put Cut mark rest = Goal Cut mark ∷ rest
-put (Run t) mark rest = Goal (Run t) mark ∷ rest
-put (Or a b) mark rest = Goal (Or a b) mark ∷ rest
-put (If c t) mark rest = Goal (If c t) mark ∷ rest
-put (Choose c t e) mark rest = Goal (Choose c t e) mark ∷ rest
-
--- the list with all conjunctions taken apart
-abbrev pub flat : List Member → List Member
-flat [] = []
-flat (Goal b mark ∷ ms) = put b mark (flat ms)
-flat (CutTo height ∷ ms) = CutTo height ∷ flat ms
-flat (Fail ∷ ms) = Fail ∷ flat ms
-flat (Leave height ∷ ms) = Leave height ∷ flat ms
-flat (Raise ball ∷ ms) = Raise ball ∷ flat ms
-flat (Meet ball catcher recovery ∷ ms) = Meet ball catcher recovery ∷ flat ms
-flat (Gather height template ∷ ms) = Gather height template ∷ flat ms
-
--- Two lists without conjunctions have the same goals under these substitutions. No goal but a control construct reads
--- its mark. What follows failure or a ball is never run, but a ball looks there for the ends of catches.
+-- Two lists have the same members under these substitutions. No goal but a control construct reads its mark. What
+-- follows failure or a ball is never run, but a ball looks there for the ends of catches.
 pub data SameList (r q : Subst) : List Member → List Member → Type 0 where
   no_member : SameList r q [] []
   same_goal : {t u : Tree} {m n : ℕ} {ms ns : List Member} → apply r t ≡ apply q u → SameList r q ms ns → SameList r q (Goal (Run t) m ∷ ms) (Goal (Run u) n ∷ ns)
@@ -77,7 +57,7 @@ IsOwnLeft r (Groups by groups) = IsValue r by.witness × IsValue r by.result
 -- the alternatives are the same, each under its own substitutions, for queries with these variables
 pub data SameStack (vs ws : List ℕ) : List Alternative → List Alternative → Type 0 where
   no_alternative : SameStack vs ws [] []
-  same_alternative : {a b : Alternative} {xs ys : List Alternative} → Agree a.subst b.subst vs ws a.next → a.next ≡ b.next → a.built ≤ b.built → SameList a.subst b.subst (flat a.list) (flat b.list) → a.left ≡ b.left
+  same_alternative : {a b : Alternative} {xs ys : List Alternative} → Agree a.subst b.subst vs ws a.next → a.next ≡ b.next → a.built ≤ b.built → SameList a.subst b.subst a.list b.list → a.left ≡ b.left
       → IsOwnLeft a.subst a.left → IsOwnLeft b.subst b.left → SameStack vs ws xs ys → SameStack vs ws (a ∷ xs) (b ∷ ys)
 
 -- The states are the same, whatever comes next; the first has no larger query and has built no more.
@@ -94,7 +74,27 @@ pub record Around (s t : State) : Type 0 where
   pub next : s.next ≡ t.next
   pub beside : Beside s t
 
+-- a body before a list, its conjunctions taken apart as long as one comes first
+abbrev pub open_body : Body → ℕ → List Member → List Member
+open_body (And a b) mark ms = open_body a mark (Goal b mark ∷ ms)
+open_body Cut mark ms = Goal Cut mark ∷ ms
+open_body (Run t) mark ms = Goal (Run t) mark ∷ ms
+open_body (Or a b) mark ms = Goal (Or a b) mark ∷ ms
+open_body (If c t) mark ms = Goal (If c t) mark ∷ ms
+open_body (Choose c t e) mark ms = Goal (Choose c t e) mark ∷ ms
+
+-- the list without a conjunction that comes first
+abbrev pub open_list : List Member → List Member
+open_list [] = []
+open_list (Goal b mark ∷ ms) = open_body b mark ms
+open_list (CutTo height ∷ ms) = CutTo height ∷ ms
+open_list (Fail ∷ ms) = Fail ∷ ms
+open_list (Leave height ∷ ms) = Leave height ∷ ms
+open_list (Raise ball ∷ ms) = Raise ball ∷ ms
+open_list (Meet ball catcher recovery ∷ ms) = Meet ball catcher recovery ∷ ms
+open_list (Gather height template ∷ ms) = Gather height template ∷ ms
+
 -- The states are the same. Of a state that fails the substitution and the next number don't count.
 pub data Same (s t : State) : Type 0 where
-  going : Around s t → SameList s.subst t.subst (flat s.list) (flat t.list) → Same s t
+  going : Around s t → SameList s.subst t.subst (open_list s.list) (open_list t.list) → Same s t
   failing : (ms ns : List Member) → s.list ≡ Fail ∷ ms → t.list ≡ Fail ∷ ns → Beside s t → Same s t

@@ -1,8 +1,10 @@
 -- How far a state reaches: its members and its alternatives, where an alternative counts while a clause that is left
 -- may be entered. A bound on what an engine keeps is said by it.
-use Rattle.std.specs.Prelude.{◌+◌, ◌*◌, ℕ, List, [], ◌∷◌, length, Bool, true, false, ◌||◌, if◌then◌else◌}
+use Rattle.std.specs.Prelude.{◌+◌, ◌*◌, ◌<◌, ℕ, List, [], ◌∷◌, length, Bool, true, false, ◌||◌, if◌then◌else◌}
 use Rattle.iso_model.specs.Terms.Trees.{Tree}
 use Rattle.iso_model.specs.Search.Databases.{Clause}
+use Rattle.iso_model.specs.Search.Clashes.{may_enter}
+use Rattle.iso_model.specs.Search.Runs.{Reaches}
 use Rattle.iso_model.specs.Search.Walker.{State, Left, AsIs, Again, Clauses, Catching, Gathering, Offered, Groups, Alternative}
 
 -- for any test by which clauses are ruled out for a call (of a static procedure: by first arguments; of a dynamic one
@@ -28,3 +30,7 @@ module _ (enters : Tree → Clause → Bool) where
 
   abbrev pub span : State → ℕ
   span s = 3 * (1 + (length s.list + stack_span s.stack))
+
+-- Some steps without an event lead to a state that spans more than this, where first arguments rule clauses out.
+abbrev pub ComesBeyond : ℕ → State → Type 0
+ComesBeyond most s = Reaches s (λ t. most < span may_enter t)

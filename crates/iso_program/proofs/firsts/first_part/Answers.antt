@@ -1,5 +1,7 @@
-use Rattle.std.proofs.Common.{◌≡◌, ◌≢◌, suc, ◌+◌, ◌<◌, length, get_or, ap, ◌∙◌, arith, add-one}
-use Rattle.iso_program.proofs.FirstLemmas.{leaves_few, many_next, first_next, still_next, first_of_all}
+-- The first term has the part, or there is none.
+use Rattle.std.proofs.Common.{◌≡◌, ◌≢◌, suc, ◌+◌, ◌<◌, [], length, get_or, sym, subst, ap, ◌∙◌, arith, add-one}
+use Rattle.iso_program.specs.Firsts.{TakesMore}
+use Rattle.iso_program.proofs.FirstLemmas.{leaves_few, many_next, first_next, still_next, first_of_all, enough_before, some_parts, none_of_all}
 use Rattle.iso_program.proofs.firsts.first_part.Goals as goal
 use Rattle.iso_program.proofs.firsts.first_part.Goals.{then-left-eq0, else-left-eq0}
 
@@ -44,3 +46,24 @@ returns c names t whole =
     let some = so.some some_open in
     let all : suc c.loop-index.index ≡ length c.args.parts.now = omega (arith, past, some) in
     first_of_all names c.args.parts.now c.loop-index.index c.index-parts-first.result t whole all (so.shows names whole.named some_open c.index-parts-first.result c.index-parts-first.is)
+
+pub returns-in_default : goal.returns-in_default
+returns-in_default c names t whole f u us is =
+    let ks = c.args.parts.now in
+    let i = c.loop-index.index in
+    let k = c.index-parts-index.result in
+    let test = c.loop-index-test.true in
+    let below : i < length ks = omega (arith, test) in
+    let taken = subst (TakesMore k) (sym (c.loop-index.invariant.many names)) c.in_default.ensures in
+    enough_before names ks [] i k k c.requires below c.index-parts-index.is taken
+
+pub returns-then-open-eq0 : goal.returns-then-open-eq0
+returns-then-open-eq0 c names t whole =
+    let ks = c.args.parts.now in
+    let i = c.loop-index.index in
+    let so = c.loop-index.invariant in
+    let past = c.loop-index-test.false in
+    let some = some_parts names ks t whole in
+    let there = so.there in
+    let all : suc i ≡ length ks = omega (arith, past, some, there) in
+    none_of_all names ks i t whole all (so.many names ∙ c.if-open-eq0.true)

@@ -14,4 +14,5 @@ returns-clause-left g c = λ names call cs shows are.
       clauses = fit.clauses;
       are = next_is_left names c.args.db.now c.begin.new.later _ fit.clauses first fit.are h.stand h.is h.rest h.few;
       skips = fit.skips;
+      enter = fit.enter;
     }) c.begin.ensures.begins)

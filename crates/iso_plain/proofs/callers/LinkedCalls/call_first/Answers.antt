@@ -126,5 +126,5 @@ returns-else-branch-clause-next g c =
     let spent = record e { steps = e.steps - 1; now = now.Spent limit.Frames } in
     rw (c.in_ok-call-in-User.ensures.refused (ap Ok c.if-branch.false)) (
       next_called g.S.Store linked e s c.in-Run.goal c.args.first.next r n more c.in-User.clause c.called-called.new.later user spent (move.Pauses pause.FramesFull) (refl, refl, (calls.ahead.world, calls.ahead.base, (less.query, calls.ahead.choices))),
-      next_over g.S.Store linked e s c.in-Run.goal c.args.first.next r n more c.in-User.clause c.called-called.new.later user full,
+      (next_over g.S.Store linked e s c.in-Run.goal c.args.first.next r n more c.in-User.clause c.called-called.new.later user full).0,
     ))

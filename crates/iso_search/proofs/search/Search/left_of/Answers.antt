@@ -37,7 +37,7 @@ returns-in-Ok-Some g c = λ w k t is user_is shows.
     let there = clauses_there k kind.0 is.database_is (ap kind_of at ∙ kind.1) in
     let are : AreClauses (own_of g.L.Lists) names (clauses_at (contents e.db) c.args.place) there.clauses = subst (λ (ks : List (Clause _)). AreClauses (own_of g.L.Lists) names ks there.clauses) (ap clauses_of at) there.are in
     let left = c.in-Ok-Some.ensures.left names t there.clauses shows are in
-    named_begins (AreLeft (own_of g.L.Lists) names e.db) c.first_left.new.later w k t left.clauses (called.User c.in-Ok-Some.clause) user.0 (record { whole = there.clauses; found = there.found; skips = left.skips }) (subst (λ o. NextLeft (AreLeft (own_of g.L.Lists) names e.db) o c.first_left.new.later left.clauses) c.in-Ok-Some.field-0-is left.are))
+    named_begins (AreLeft (own_of g.L.Lists) names e.db) c.first_left.new.later w k t left.clauses (called.User c.in-Ok-Some.clause) user.0 (record { whole = there.clauses; found = there.found; skips = left.skips; enter = left.enter }) (subst (λ o. NextLeft (AreLeft (own_of g.L.Lists) names e.db) o c.first_left.new.later left.clauses) c.in-Ok-Some.field-0-is left.are))
 
 pub returns-in-Ok-None : goal.returns-in-Ok-None
 returns-in-Ok-None g c = λ w k t is user_is shows.
@@ -50,4 +50,4 @@ returns-in-Ok-None g c = λ w k t is user_is shows.
     let there = clauses_there k kind.0 is.database_is (ap kind_of at ∙ kind.1) in
     let are : AreClauses (own_of g.L.Lists) names (clauses_at (contents e.db) c.args.place) there.clauses = subst (λ (ks : List (Clause _)). AreClauses (own_of g.L.Lists) names ks there.clauses) (ap clauses_of at) there.are in
     let left = c.in-Ok-None.ensures.left names t there.clauses shows are in
-    named_begins (AreLeft (own_of g.L.Lists) names e.db) c.first_left.new.later w k t left.clauses called.Fails user.0 (record { whole = there.clauses; found = there.found; skips = left.skips }) (subst (λ o. NextLeft (AreLeft (own_of g.L.Lists) names e.db) o c.first_left.new.later left.clauses) c.in-Ok-None.field-0-is left.are))
+    named_begins (AreLeft (own_of g.L.Lists) names e.db) c.first_left.new.later w k t left.clauses called.Fails user.0 (record { whole = there.clauses; found = there.found; skips = left.skips; enter = left.enter }) (subst (λ o. NextLeft (AreLeft (own_of g.L.Lists) names e.db) o c.first_left.new.later left.clauses) c.in-Ok-None.field-0-is left.are))
