@@ -63,7 +63,7 @@ abbrev pub frames_of : Values → Option ℕ
 frames_of values = number_in 1000000 1 16777216 (values (codes "frames"))
 
 abbrev pub engine_named : Option Text → Option EngineName
-engine_named None = Some Plain
+engine_named None = Some Wam
 engine_named (Some name) =
     if bytes_eq name (codes "plain") then Some Plain else (if bytes_eq name (codes "wam") then Some Wam else None)
 

@@ -50,7 +50,7 @@ Consults the program text FILE, then answers the queries on standard input.
   --budget N   steps for each query, 0 to 4294967295 (1000000)
   --cells N    cells of the store, 1 to 268435456 (16777216)
   --frames N   alternatives that may stand at once, 1 to 16777216 (1000000)
-  --engine E   the engine: plain, or wam for the Warren machine (plain)
+  --engine E   the engine: wam for the Warren machine, or plain (wam)
   --help       this text
 ";
 
@@ -188,7 +188,7 @@ pub fn number(
     }
 }
 
-/// The engine of this name; the default is the plain one. Usage where there is no such engine, NoMemory where memory
+/// The engine of this name; the default is the Warren machine. Usage where there is no such engine, NoMemory where memory
 /// for the line that says so was refused.
 pub fn engine_name(alloc: Global, value: Option<&str>) -> Result<EngineName, WordsFault>
     ensures { MatchResult result
@@ -196,7 +196,7 @@ pub fn engine_name(alloc: Global, value: Option<&str>) -> Result<EngineName, Wor
         (λ fault. asked.Refuses (asked.engine_named (option_map (λ name. name.now) value.entry) ≡ None) fault) }
 {
     match value {
-        None => Ok(EngineName::Plain),
+        None => Ok(EngineName::Wam),
         Some("plain") => Ok(EngineName::Plain),
         Some("wam") => Ok(EngineName::Wam),
         Some(name) => Err(usage(refusal(alloc, "engine", "plain or wam", name))),

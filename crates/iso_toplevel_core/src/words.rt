@@ -25,7 +25,7 @@ Consults the program text FILE, then takes queries from standard input. At a ter
   --budget N   steps for each query, 0 to 4294967295 (1000000)
   --cells N    cells of the store, 1 to 268435456 (16777216)
   --frames N   alternatives that may stand at once, 1 to 16777216 (1000000)
-  --engine E   the engine: plain, or wam for the Warren machine (plain)
+  --engine E   the engine: wam for the Warren machine, or plain (wam)
   --help       this text
 ";
 
