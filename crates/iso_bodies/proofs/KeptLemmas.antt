@@ -4,6 +4,7 @@ use Rattle.std.specs.List.{All, AllZip}
 use Rattle.std.specs.String.{string_bytes}
 use Rattle.std.proofs.lemmas.List.Elements.{All-nil, All-cons, All-weaker}
 use Rattle.iso_atoms.specs.Texts.{KeepsTexts}
+use Rattle.iso_model.specs.Terms.Trees.{Tree}
 use Rattle.iso_model.specs.Search.Arithmetic.{among, operations_of_one, operations_of_two}
 use Rattle.iso_compile.specs.declared.clauses.Code as compiled_code
 use Rattle.iso_compile.specs.declared.goals.Arguments as compiled_arguments
@@ -29,7 +30,7 @@ use Rattle.iso_instructions.specs.declared.instructions.Step.{Step}
 use Rattle.iso_instructions.specs.Steps.{IsUnknown}
 use Rattle.iso_bodies.specs.Steps.{IsLoadedStep}
 use Rattle.iso_bodies.specs.Instructions.{IsLoadedGoal, IsLoadedInstruction}
-use Rattle.iso_bodies.specs.Clauses.{IsLoadedCode}
+use Rattle.iso_bodies.specs.Clauses.{IsLoadedCode, IsNameOf}
 
 -- ---- some count is above all variables
 
@@ -126,3 +127,7 @@ module _ (old new : List (List ℕ)) (keeps : KeepsTexts old new) where
     fresh = h.fresh;
     body = body_kept low c.body.items l.body.items h.body;
   }
+
+  -- the atom of a head's name is so where names came since
+  pub name_kept : (name : ℕ) (head : Tree) → IsNameOf old name head → IsNameOf new name head
+  name_kept name head h = record { text = h.text; named = keeps name h.text h.named; key = h.key }

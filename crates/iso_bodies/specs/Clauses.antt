@@ -1,6 +1,9 @@
 -- What the code of a clause is once it is loaded.
-use Rattle.std.specs.Prelude.{◌≡◌, ◌<◌, ◌++◌, ℕ, List, map, Bool, true, false}
-use Rattle.std.specs.List.{All, AllZip}
+use Rattle.std.specs.Prelude.{◌≡◌, ◌<◌, ◌++◌, ℕ, List, Some, map, Bool, true, false}
+use Rattle.std.specs.List.{All, AllZip, slice_get}
+use Rattle.iso_model.specs.Search.Keys.{key, key_of}
+use Rattle.iso_model.specs.Terms.Trees.{Tree, count}
+use Rattle.iso_alloc.specs.Plans.{arguments_of}
 use Rattle.iso_compile.specs.declared.clauses.Code as compiled
 use Rattle.iso_code.specs.declared.operands.Head.{Head}
 use Rattle.iso_code.specs.declared.operands.Operand.{Operand}
@@ -31,6 +34,12 @@ pub record IsFresh (head : Head) (count : ℕ) (fresh : List Operand) : Type 0 w
   pub new : All (IsNewBelow count) fresh
   pub marked : AreMarked (met_behind none_met (head_operands head)) fresh
   pub whole : (x : ℕ) → x < count → met_behind none_met (head_operands head ++ fresh) x ≡ true
+
+-- The atom is that of the head's name, where these are the names of the atoms.
+pub record IsNameOf (names : List (List ℕ)) (name : ℕ) (head : Tree) : Type 0 where
+  pub text : List ℕ
+  pub named : slice_get names name ≡ Some text
+  pub key : key_of head ≡ Some (key text (count (arguments_of (Some head))))
 
 -- The code is that of the clause that was compiled, where these are the names of the atoms, compounds have the
 -- registers from low on, the head has so many arguments, and the clause so many variables.

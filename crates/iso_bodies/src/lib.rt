@@ -6,4 +6,4 @@ mod clauses;
 mod fresh;
 mod steps;
 
-pub use clauses::load_clause;
+pub use clauses::{head_name, load_clause};

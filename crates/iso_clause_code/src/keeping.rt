@@ -6,7 +6,7 @@ ghost use Rattle.iso_program.specs.Kept.{IsChecked};
 ghost use Rattle.iso_clause_code.specs.Keeping.{KeepsCode};
 
 use iso_alloc::{assign, head_arguments};
-use iso_bodies::load_clause;
+use iso_bodies::{head_name, load_clause};
 use iso_compile::compile;
 use iso_instructions::Code;
 use iso_model::NoMemory;
@@ -25,9 +25,11 @@ pub fn kept_code<S: Store>(
     ensures present { S.present store.new ≡ S.present store.old }
 {
     let prepared = &checked.prepared;
+    let name = head_name(store, prepared.head())?;
     let plan = assign(alloc, prepared)?;
     let compiled = compile(alloc, prepared, &plan)?;
     let arity = head_arguments(prepared.head()).len();
     let variables = prepared.variables();
-    load_clause(alloc, store, plan.registers(), arity, variables, &compiled)
+    let low = plan.registers();
+    load_clause(alloc, store, name, low, arity, variables, &compiled)
 }

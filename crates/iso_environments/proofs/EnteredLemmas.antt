@@ -18,7 +18,8 @@ use Rattle.iso_program.specs.Kept.{AreTemplates}
 use Rattle.iso_search_core.specs.Bodies.{body_cost}
 use Rattle.iso_instructions.specs.declared.instructions.Code.{Code}
 use Rattle.iso_instructions.specs.declared.instructions.Instruction.{Instruction}
-use Rattle.iso_instructions.specs.declared.instructions.Instruction.TheVariants.{Proceed}
+use Rattle.iso_instructions.specs.declared.instructions.Instruction.TheVariants.{Execute, Proceed}
+use Rattle.iso_instructions.specs.Forms.{form_of, is_fact}
 use Rattle.iso_bodies.specs.Instructions.{IsLoadedInstruction}
 use Rattle.iso_clause_code.specs.Keeping.{KeepsCode}
 use Rattle.iso_frames.specs.declared.frames.Rest.{Rest}
@@ -31,16 +32,20 @@ use Rattle.iso_frames.proofs.GoingLemmas.{remains_end}
 use Rattle.iso_frames.proofs.PushLemmas.{clause_entered}
 use Rattle.iso_frames.proofs.CostLemmas.{newest_count}
 use Rattle.iso_environments.specs.Stacks.{stack}
-use Rattle.iso_environments.specs.Entered.{HasEnvironment, clause_members, ends_alone}
+use Rattle.iso_environments.specs.Entered.{HasEnvironment, clause_members}
 
 members_fit : (n : ℕ) (b : Body) (alone : Bool) → AreTemplates n (goals_of b)
     → FitMembers n (if alone then [] else Goal b mark.Clause ∷ [])
 members_fit n b true goals = tt
 members_fit n b false goals = (goals, tt)
 
-alone_end : (code : List Instruction) → ends_alone code ≡ true → slice_get code (length code - 1) ≡ Some Proceed
+alone_end : (code : List Instruction) → is_fact (form_of code) ≡ true → slice_get code (length code - 1) ≡ Some Proceed
+alone_end [] alone = absurd (false≢true alone)
 alone_end (Proceed ∷ []) alone = refl
-alone_end code alone = absurd (false≢true alone)
+alone_end (i ∷ []) alone = absurd (false≢true alone)
+alone_end (i ∷ Execute g ∷ []) alone = absurd (false≢true alone)
+alone_end (i ∷ Execute g ∷ j ∷ code) alone = absurd (false≢true alone)
+alone_end (i ∷ j ∷ code) alone = absurd (false≢true alone)
 
 module _ {names : List (List ℕ)} {code : Code} {c : databases.Clause} (k : KeepsCode names code c) where
   abbrev pub body_kept : IsBody
@@ -64,8 +69,8 @@ module _ {names : List (List ℕ)} {code : Code} {c : databases.Clause} (k : Kee
   }
 
   -- where the code only ends, the body is no goal
-  pub fact_body : ends_alone code.body.items ≡ true → body_members true c.body ≡ []
-  fact_body alone = remains_end body_remains (alone_end code.body.items alone)
+  pub fact_body : is_fact code.form ≡ true → body_members true c.body ≡ []
+  fact_body alone = remains_end body_remains (alone_end code.body.items (ap is_fact (sym code.formed) ∙ alone))
 
 -- the frame of a clause that was entered
 abbrev pub entered : Rc Code Global → ℕ → ℕ → Option Rest → Frame

@@ -1,4 +1,5 @@
 pub mod EnteredLemmas
+pub mod StackLemmas
 pub mod GivenLemmas
 pub mod MetLemmas
 pub mod LeveledLemmas

@@ -1,5 +1,5 @@
 -- The body of a clause that was entered, as members of the search's list.
-use Rattle.std.specs.Prelude.{◌≡◌, ℕ, List, [], ◌∷◌, length, Bool, true, false}
+use Rattle.std.specs.Prelude.{◌≡◌, ℕ, List, length, true}
 use Rattle.std.specs.List.{All}
 use Rattle.iso_model.specs.Search.Databases as databases
 use Rattle.iso_model.specs.Search.Walker.{Member}
@@ -7,8 +7,6 @@ use Rattle.iso_store_core.specs.Presents.{Present, Holds}
 use Rattle.iso_compile.specs.Clauses.{body_members}
 use Rattle.iso_search_core.specs.Words.{word_terms}
 use Rattle.iso_instructions.specs.declared.instructions.Code.{Code}
-use Rattle.iso_instructions.specs.declared.instructions.Instruction.{Instruction}
-use Rattle.iso_instructions.specs.declared.instructions.Instruction.TheVariants.{Proceed}
 use Rattle.iso_clause_code.specs.Keeping.{KeepsCode}
 use Rattle.iso_frames.specs.Running.{Knows, placed}
 
@@ -25,8 +23,3 @@ pub record HasEnvironment {W : Type 0} (atom_word : ℕ → W) (p : Present W) (
 -- a level
 abbrev pub clause_members : {W : Type 0} → Present W → List W → ℕ → databases.Clause → List Member
 clause_members p words height c = placed (word_terms p words) height (λ slot. 0) (body_members true c.body)
-
--- the code of a body is `proceed` alone
-abbrev pub ends_alone : List Instruction → Bool
-ends_alone (Proceed ∷ []) = true
-ends_alone code = false

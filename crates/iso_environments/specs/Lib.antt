@@ -1,4 +1,5 @@
 pub mod Stacks
+pub mod Stacked
 pub mod Entered
 pub mod Leveled
 pub mod Met

@@ -11,30 +11,24 @@ ghost use Rattle.iso_clause_code.specs.Keeping.{KeepsCode};
 ghost use Rattle.iso_frames.specs.Frames.{Chain};
 ghost use Rattle.iso_frames.specs.Costs.{cost_of, pending_of, cells_from};
 ghost use Rattle.iso_environments.specs.Stacks.{stack};
-ghost use Rattle.iso_environments.specs.Entered.{HasEnvironment, clause_members, ends_alone};
+ghost use Rattle.iso_instructions.specs.Forms.{is_fact};
+ghost use Rattle.iso_environments.specs.Entered.{HasEnvironment, clause_members};
 
 use iso_frames::{Frame, Rest, Work};
-use iso_instructions::{Code, Instruction};
+use iso_instructions::{Code, Form};
 use std::alloc::AllocError;
 use std::rc::Rc;
 
-/// Whether code is `proceed` alone.
-fn only_ends(code: &[Instruction]) -> bool
-    ensures { result ≡ ends_alone code.now }
-{
-    match code {
-        [Instruction::Proceed] => true,
-        _ => false,
-    }
-}
-
 /// Whether the body of the clause is no goal: its code only ends.
 pub fn is_fact(code: &Code) -> bool
-    ensures ends { result ≡ ends_alone code.now.body.items }
+    ensures form { result ≡ is_fact code.now.form }
     ensures body { (names : List (List ℕ)) (c : databases.Clause) → KeepsCode names code.now c → result ≡ true
         → body_members true c.body ≡ [] }
 {
-    only_ends(code.body.as_slice())
+    match code.form {
+        Form::Fact => true,
+        Form::OneCall | Form::Other => false,
+    }
 }
 
 /// Appends the frame of a clause that was entered with this cut mark, before the list from the place on. Its

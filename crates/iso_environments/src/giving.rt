@@ -6,13 +6,14 @@ ghost use Rattle.iso_prep.specs.declared.bodies.Node.{Node};
 ghost use Rattle.iso_frames.specs.Frames.{Chain, IsPlace, top_of, depth_of};
 ghost use Rattle.iso_environments.specs.Stacks.{stack};
 
+use super::words::Words;
 use iso_frames::{Frame, Rest, top_of};
 
 /// Gives up the frames and words that are neither among the first ones, so many, nor needed for the list from the place
 /// on.
 pub fn give_up<W: Copy>(
     frames: &mut Vec<Frame>,
-    words: &mut Vec<W>,
+    words: &mut Words<W>,
     kept_frames: usize,
     kept_words: usize,
     behind: Option<Rest>,

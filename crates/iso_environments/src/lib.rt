@@ -7,6 +7,7 @@ mod giving;
 mod leveling;
 mod meeting;
 mod putting;
+mod words;
 
 pub use answering::answer;
 pub use entering::{is_fact, push_clause};
@@ -14,3 +15,4 @@ pub use giving::give_up;
 pub use leveling::push_level;
 pub use meeting::meet_clause;
 pub use putting::{Put, put_goal};
+pub use words::Words;

@@ -11,6 +11,7 @@ ghost use Rattle.iso_alloc.specs.Plans.{arguments_of};
 ghost use Rattle.iso_clause_code.specs.Keeping.{KeepsCode};
 ghost use Rattle.iso_environments.specs.Met.{HasMet};
 
+use super::words::Words;
 use iso_cells::Cells;
 use iso_instructions::Code;
 use iso_machine_core::enter_clause;
@@ -22,7 +23,7 @@ use iso_store_core::StoreFault;
 /// The caller keeps the next number below 2^63. The errors: the store is full, or memory was refused.
 pub fn meet_clause<S: Cells>(
     store: &mut S,
-    words: &mut Vec<S::Word>,
+    words: &mut Words<S::Word>,
     code: &Code,
     start: usize,
     count: usize,
@@ -51,9 +52,10 @@ pub fn meet_clause<S: Cells>(
 {
     let base = words.len();
     let filler = store.int(0)?;
-    words.resize(base + code.variables, filler)?;
+    words.grow(code.variables, filler)?;
     store.know_atoms();
-    let (below, environment) = words.as_mut_slice().split_at_mut(base);
+    let (below, above) = words.file.as_mut_slice().split_at_mut(base);
+    let environment = &mut above[..code.variables];
     let entered = enter_clause(
         store,
         &code.head,

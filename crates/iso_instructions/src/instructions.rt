@@ -1,4 +1,6 @@
 //! Instructions of bodies, and the code of a clause.
+ghost use Rattle.std.specs.Prelude.{◌≡◌};
+ghost use Rattle.iso_instructions.specs.Forms.{form_of};
 
 use iso_arith::{Binary, Unary};
 use iso_atoms::Atom;
@@ -52,15 +54,44 @@ pub enum Instruction {
     Jump(usize),
 }
 
+/// What a clause does behind its head.
+#[derive(Clone, Copy)]
+pub enum Form {
+    /// It ends: the clause is a fact.
+    Fact,
+    /// It calls one goal of a procedure, and ends.
+    OneCall,
+    /// Anything else.
+    Other,
+}
+
+/// The form of a body with this code.
+pub fn form_of(body: &[Instruction]) -> Form
+    ensures { result ≡ form_of body.now }
+{
+    match body {
+        [Instruction::Proceed] => Form::Fact,
+        [_, Instruction::Execute(_)] => Form::OneCall,
+        _ => Form::Other,
+    }
+}
+
 /// The code of a clause. Each of its variables has a word before the body begins.
 #[derive(Drop)]
 pub struct Code {
-    /// The head.
+    /// The name of the head.
+    pub name: Atom,
+    /// How many arguments the head has.
+    pub arity: usize,
+    /// How many variables there are.
+    pub variables: usize,
+    /// The form of the body.
+    pub form: Form,
+    /// The code of the head.
     pub head: Head,
     /// The variables that the head doesn't meet.
     pub fresh: Vec<Operand>,
-    /// How many variables there are.
-    pub variables: usize,
-    /// The body, its last instruction first.
+    /// The body, its last instruction first. No fact's is read.
     pub body: Vec<Instruction>,
+    ghost formed: { form ≡ form_of body.items },
 }

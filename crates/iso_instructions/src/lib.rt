@@ -3,4 +3,4 @@
 
 mod instructions;
 
-pub use instructions::{Code, Goal, Instruction, Step};
+pub use instructions::{Code, Form, Goal, Instruction, Step, form_of};

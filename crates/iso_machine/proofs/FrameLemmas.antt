@@ -29,6 +29,7 @@ use Rattle.iso_frames.proofs.ChainLemmas.{chain_place, chain_top, chain_pushed, 
 use Rattle.iso_frames.proofs.PushLemmas.{member_pushed}
 use Rattle.iso_frames.proofs.CodeCosts.{cost_pushed, pending_pushed}
 use Rattle.iso_frames.proofs.ListCosts.{cost_added, pending_added, cost_given, pending_given}
+use Rattle.iso_environments.specs.Stacked.{Stacked}
 use Rattle.iso_machine.specs.declared.framed.Extent.{Extent}
 use Rattle.iso_machine.specs.declared.framed.KeptCall.{KeptCall}
 use Rattle.iso_machine.specs.declared.framed.Framed.{Framed}
@@ -42,6 +43,9 @@ use Rattle.iso_environments.specs.Goals.{goal_of}
 
 pub adds_same : {X : Type 0} {old new : Vec X Global} → new ≡ old → Adds old.items new.items
 adds_same {X = X} {old = old} same = ([], ap (λ (v : Vec X Global). v.items) same ∙ sym (append-nil old.items))
+
+pub stacked_same : {W : Type 0} {old new : Stacked W} → new ≡ old → Adds old.items new.items
+stacked_same {W = W} {old = old} same = ([], ap (λ (v : Stacked W). v.items) same ∙ sym (append-nil old.items))
 
 pub adds_both : {X : Type 0} (old : List X) {middle new : List X} → Adds old middle → Adds middle new → Adds old new
 adds_both {X = X} old first second =
@@ -191,7 +195,7 @@ module _ {S W M : Type 0} where
           frames = old.frames.items ++ f ∷ [];
           words = old.words.items ++ [];
         } =
-        ap₃ stack (ap (λ (v : Vec (Node W) Global). v.items) nodes) frames (ap (λ (v : Vec W Global). v.items) words
+        ap₃ stack (ap (λ (v : Vec (Node W) Global). v.items) nodes) frames (ap (λ (v : Stacked W). v.items) words
         ∙ sym (append-nil old.words.items)) in
         let there = member_pushed atom_word (stack_of old) f [] todo 0 work member (omega (arith, below, top))
         (omega (arith, top, long)) chain in

@@ -21,7 +21,7 @@ use Rattle.iso_machine.specs.Engines.{Engine, framed}
 use Rattle.iso_machine.specs.GoalPlaces.{IsNextGoal}
 use Rattle.iso_machine.specs.LastCalls.{GoesLast, with_frame}
 use Rattle.iso_machine.proofs.CameLemmas.{came_behind, came_not, came_same, came_to_behind, gone_error}
-use Rattle.iso_machine.proofs.LastMoves.{framed_stays, same_engine}
+use Rattle.iso_machine.proofs.Moves.Last.{framed_stays, same_engine}
 
 module _ {S W M : Type 0} (g : Ghosts S W M) (atom_word : ℕ → W) where
   -- the goal of the instruction that comes first

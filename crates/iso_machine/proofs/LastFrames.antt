@@ -27,8 +27,8 @@ use Rattle.iso_machine.specs.declared.framed.KeptCall.{KeptCall}
 use Rattle.iso_machine.specs.Engines.{Engine, framed}
 use Rattle.iso_machine.specs.Entered.{Begins}
 use Rattle.iso_machine.specs.Wholes.{whole_chain}
-use Rattle.iso_machine.proofs.EnteredMoves.{Tried, onward}
-use Rattle.iso_machine.proofs.FramedMoves.{begun_engine}
+use Rattle.iso_machine.proofs.Moves.Entered.{Tried, onward}
+use Rattle.iso_machine.proofs.Moves.Framed.{begun_engine}
 use Rattle.iso_machine.specs.LastCalls.{CallsAlone, HasFrame, IsLastFrame, place_of, with_frames}
 use Rattle.iso_machine.specs.Lists.{cost_at, pending_at}
 

@@ -23,7 +23,7 @@ use Rattle.iso_machine.specs.Engines.{Engine, framed}
 use Rattle.iso_machine.specs.GoalPlaces.{IsCodeAt, IsCodeThere, IsGoalAt, IsReadable}
 use Rattle.iso_machine.specs.LastCalls.{IsLastFrame, with_frame}
 use Rattle.iso_machine.specs.Lists.{stack_of}
-use Rattle.iso_machine.proofs.GoalMoves.{at_code}
+use Rattle.iso_machine.proofs.Moves.Goal.{at_code}
 
 -- the instruction calls the goal
 goes_called : (code : List Instruction) (r : Rest) (behind : Option Rest) (g : instruction.Goal) (place : Option Rest)

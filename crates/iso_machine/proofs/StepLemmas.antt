@@ -34,7 +34,7 @@ use Rattle.iso_machine.specs.declared.goal_places.Act.{Act}
 use Rattle.iso_machine.specs.declared.goal_places.Act.TheVariants as act
 use Rattle.iso_machine.specs.Instructions.{IsInstructionThere, IsStep, IsStepThere}
 use Rattle.iso_machine.specs.Steps.{ActsThere, IsNoCall, IsOtherThere, IsNeitherThere}
-use Rattle.iso_machine.proofs.LevelMoves.{instruction_there}
+use Rattle.iso_machine.proofs.Moves.Level.{instruction_there}
 
 -- one that goes on is a step
 step_of : (i : Instruction) → IsNoCall i → (IsArithmetic i → ⊥) → i ≢ Proceed → ((l : ℕ) → i ≢ Jump l) → IsStep i

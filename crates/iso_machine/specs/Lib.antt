@@ -10,5 +10,6 @@ pub mod Instructions
 pub mod LastCalls
 pub mod Lists
 pub mod MemberLaws
+pub mod Newest
 pub mod Steps
 pub mod Wholes

@@ -1,7 +1,7 @@
 //! The moves at a goal of a procedure: its clauses are entered, and a choice keeps those behind (7.7.7, 7.7.10).
 ghost use Rattle.std.specs.Prelude.{◌≡◌, ◌≢◌, ◌<◌, ◌≤◌, ◌+◌, ◌-◌, ◌^◌, ℕ, List, ◌∷◌, Ok, Err, Option, Some, IfOk, OnOk, OnErr};
-ghost use Rattle.std.specs.Prelude.{length, map, true, false};
-ghost use Rattle.std.specs.List.{All, slice_get};
+ghost use Rattle.std.specs.Prelude.{length, map, max, true, false};
+ghost use Rattle.std.specs.List.{All};
 ghost use Rattle.iso_model.specs.Terms.Trees.{Name, Tree};
 ghost use Rattle.iso_model.specs.Search.Databases as databases;
 ghost use Rattle.iso_model.specs.Search.Engines.{IsAwake};
@@ -10,17 +10,16 @@ ghost use Rattle.iso_db.specs.declared.keyed.KeyedView.{KeyedView};
 ghost use Rattle.iso_store_core.specs.Presents.{Present, Holds, meaning};
 ghost use Rattle.iso_plain_core.specs.Entering.{Adds};
 ghost use Rattle.iso_search_core.specs.Bodies.{body_cost, left_cost, most};
-ghost use Rattle.iso_search_core.specs.declared.choices.Choice as kept;
 ghost use Rattle.iso_search.specs.EngineStates.{Calls, IsAhead, Remains, StandsAs, WasRefused, cost, kept_cost};
 ghost use Rattle.iso_search.specs.EngineStates.{phase_of};
 ghost use Rattle.iso_search.specs.Stays.{Stays};
-ghost use Rattle.iso_frames.specs.declared.frames.Rest.{Rest};
-ghost use Rattle.iso_machine.specs.declared.framed.Extent.{Extent};
+ghost use Rattle.iso_frames.specs.Frames.{depth_of, top_of};
 ghost use Rattle.iso_machine.specs.declared.framed.KeptCall.{KeptCall};
 ghost use Rattle.iso_machine.specs.Engines.{IsBeyond, framed};
 ghost use Rattle.iso_machine.specs.LastCalls.{GoesLast};
 ghost use Rattle.iso_environments.specs.Goals.{goal_of};
 ghost use Rattle.iso_machine.specs.Lists.{IsFor, KeepsFrames, cost_at, extent_of};
+ghost use Rattle.iso_machine.specs.Newest.{frames_kept, words_kept};
 
 use super::entering::{Entered, enter, makes_frame};
 use super::framed::{Framed, KeptCall};
@@ -51,9 +50,8 @@ pub(crate) enum Gone {
 
 /// How many frames and words the newest choice keeps; none where no choice stands.
 fn kept_by_newest<S: Cells + Drop>(search: &Search<S, Framed<S>>) -> (usize, usize)
-    ensures { (c : kept.Choice S.Word S.Mark Extent (Option Rest) KeptCall)
-        → slice_get search.entry.now.choices.items (length search.entry.now.choices.items - 1) ≡ Some c
-        → (result.0 ≡ c.kept.frames) × (result.1 ≡ c.kept.words) }
+    ensures frames { result.0 ≡ frames_kept search.entry.now.choices.items }
+    ensures words { result.1 ≡ words_kept search.entry.now.choices.items }
 {
     match search.choices.last() {
         Some(choice) => (choice.kept.frames, choice.kept.words),
@@ -71,6 +69,10 @@ pub(crate) fn give_up<S: Cells + Drop>(search: &mut Search<S, Framed<S>>, behind
         ≡ record search.old.lists { frames = search.new.lists.frames; words = search.new.lists.words } }
     ensures costs { kept_cost (framed S.atom_word) search.new ≡ kept_cost (framed S.atom_word) search.old }
     ensures behind { cost_at search.new.lists behind ≡ cost_at search.old.lists behind }
+    ensures frames { length search.new.lists.frames.items
+        ≤ max (frames_kept search.old.choices.items) (depth_of behind) }
+    ensures words { length search.new.lists.words.items
+        ≤ max (words_kept search.old.choices.items) (top_of search.old.lists.frames.items behind) }
     ensures stays { Stays S.Store search.old search.new }
 {
     let (frames, words) = kept_by_newest(search);
@@ -90,10 +92,12 @@ pub(crate) fn keep_arguments<S: Cells>(
         (goal_of f (map (meaning p) lists.old.arguments.items))) }
     ensures keeps { KeepsFrames S.atom_word (λ j. Unit {0}) lists.old lists.new }
     ensures words { Adds lists.old.words.items lists.new.words.items }
+    ensures many { IfOk result (λ c. length lists.new.words.items
+        ≡ length lists.old.words.items + length lists.old.arguments.items) }
     ensures same { lists.new ≡ record lists.old { words = lists.new.words } }
 {
     let start = lists.words.len();
-    lists.words.extend_from_slice(lists.arguments.as_slice())?;
+    lists.words.push_all(lists.arguments.as_slice())?;
     Ok(KeptCall {
         name,
         start,

@@ -9,7 +9,6 @@ ghost use Rattle.iso_model.specs.Search.Walker.{Member, arguments_size, body_siz
 ghost use Rattle.iso_store_core.specs.Presents.{Present, Grows};
 ghost use Rattle.iso_store_core.specs.Retaining.{CountsCells, RetainsAll};
 ghost use Rattle.iso_program.specs.Kept.{IsClause};
-ghost use Rattle.iso_program.specs.Written.{IsPatternOf};
 ghost use Rattle.iso_plain_core.specs.Entering.{Adds};
 ghost use Rattle.iso_search_core.specs.Bodies.{body_cost, most};
 ghost use Rattle.iso_search_core.specs.Own.{own_of};
@@ -17,7 +16,8 @@ ghost use Rattle.iso_clause_code.specs.Keeping.{KeepsCode};
 ghost use Rattle.iso_frames.specs.Frames.{Chain};
 ghost use Rattle.iso_frames.specs.Costs.{cells_from};
 ghost use Rattle.iso_environments.specs.Stacks.{stack};
-ghost use Rattle.iso_environments.specs.Entered.{HasEnvironment, clause_members, ends_alone};
+ghost use Rattle.iso_instructions.specs.Forms.{is_one_call, makes_frame};
+ghost use Rattle.iso_environments.specs.Entered.{HasEnvironment, clause_members};
 ghost use Rattle.iso_machine.specs.Engines.{framed};
 ghost use Rattle.std.specs.Global.{Global};
 ghost use Rattle.iso_frames.specs.declared.frames.Frame.{Frame};
@@ -30,10 +30,10 @@ use iso_atoms::Atom;
 use iso_cells::Cells;
 use iso_environments::{is_fact, meet_clause, push_clause};
 use iso_frames::Rest;
-use iso_instructions::{Code, Instruction};
+use iso_instructions::{Code, Form};
 use iso_program::clauses::Clause;
 use iso_search_core::own::OwnOf;
-use iso_store_core::{Part, Pattern, Store, StoreFault};
+use iso_store_core::{Store, StoreFault};
 use std::alloc::AllocError;
 use std::rc::Rc;
 
@@ -51,58 +51,40 @@ pub(crate) enum Entered {
 
 /// Whether the body of the clause is one goal of a procedure.
 fn is_one_call(code: &Code) -> bool
-    ensures { result ≡ true → CallsAlone code.now }
+    ensures form { result ≡ is_one_call code.now.form }
+    ensures alone { result ≡ true → CallsAlone code.now }
 {
-    if code.body.len() != 2 {
-        return false;
-    }
-    match &code.body[1] {
-        Instruction::Execute(_) => true,
-        _ => false,
+    match code.form {
+        Form::OneCall => true,
+        Form::Fact | Form::Other => false,
     }
 }
 
 /// Whether a clause with this code has a frame when it is entered: it is no fact's, and not that of one goal of a
 /// procedure where it is said to be the last.
 pub(crate) fn makes_frame(code: &Code, last: bool) -> bool
-    ensures { result ≡ false → (ends_alone code.now.body.items ≡ true) ⊎ ((last ≡ true) × CallsAlone code.now) }
+    ensures { result ≡ makes_frame code.now.form last }
 {
-    if is_fact(code) {
-        return false;
-    }
-    if last {
-        return !is_one_call(code);
-    }
-    true
-}
-
-/// The name of a head, and how many arguments it has.
-fn key_of_head(head: &Pattern) -> (Atom, usize)
-    requires { (names : List (List ℕ)) × (t : Tree) × (k : Key) × IsPatternOf names head.now t × (key_of t ≡ Some k) }
-    ensures { (names : List (List ℕ)) (t : Tree) → IsPatternOf names head.now t
-        → (result.0 < length names) × (key_of t ≡ Some (key (text_at names result.0) result.1)) }
-{
-    match head.parts[head.parts.len() - 1] {
-        Part::Atom(name) => (name, 0),
-        Part::Compound(name, count) => (name, count),
-        Part::Variable(_) | Part::Integer(_) => unreachable!(),
+    match code.form {
+        Form::Fact => false,
+        Form::OneCall => !last,
+        Form::Other => true,
     }
 }
 
-/// Whether the head has the name of the call, and as many arguments.
-fn is_called<S: Store>(store: &S, head: &Pattern, call: KeptCall) -> bool
+/// Whether the head of the clause with this code has the name of the call, and as many arguments.
+fn is_called<S: Store>(store: &S, code: &Code, call: KeptCall) -> bool
     requires name { call.name < length (S.names store.now) }
-    requires head { (t : Tree) × (k : Key) × IsPatternOf (S.names store.now) head.now t × (key_of t ≡ Some k) }
-    ensures same { (t : Tree) → IsPatternOf (S.names store.now) head.now t → result ≡ true
-        → key_of t ≡ Some (key (text_at (S.names store.now) call.name) call.count) }
-    ensures other { (t : Tree) → IsPatternOf (S.names store.now) head.now t → result ≡ false
-        → key_of t ≢ Some (key (text_at (S.names store.now) call.name) call.count) }
+    requires code { (c : databases.Clause) × KeepsCode (S.names store.now) code.now c }
+    ensures same { (c : databases.Clause) → KeepsCode (S.names store.now) code.now c → result ≡ true
+        → key_of c.head ≡ Some (key (text_at (S.names store.now) call.name) call.count) }
+    ensures other { (c : databases.Clause) → KeepsCode (S.names store.now) code.now c → result ≡ false
+        → key_of c.head ≢ Some (key (text_at (S.names store.now) call.name) call.count) }
 {
-    let (name, count) = key_of_head(head);
-    if count != call.count {
+    if code.arity != call.count {
         return false;
     }
-    name == call.name || store.text(name) == store.text(call.name)
+    code.name == call.name || store.text(code.name) == store.text(call.name)
 }
 
 /// Where the list begins behind the head of a clause that was entered with this cut mark, before the list from `rest`
@@ -187,10 +169,10 @@ pub(crate) fn enter<S: Cells>(
     ensures full { result ≡ Err StoreFault.Full → S.full store.new }
     ensures rest { RetainsAll S.Store store.old store.new }
 {
-    if !is_called(store, &clause.head, call) {
+    let code = &clause.own.kept;
+    if !is_called(store, code.as_ref(), call) {
         return Ok(Entered::Missed);
     }
-    let code = &clause.own.kept;
     let met = meet_clause(
         store,
         &mut lists.words,

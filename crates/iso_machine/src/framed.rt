@@ -19,6 +19,7 @@ ghost use Rattle.iso_machine.specs.Lists.{list_words, body_words, list_values, l
 use iso_atoms::Atom;
 use iso_cells::Cells;
 use iso_clause_code::kept_code;
+use iso_environments::Words;
 use iso_frames::{Frame, Link, Next, Rest, Work, going};
 use iso_instructions::Code;
 use iso_model::NoMemory;
@@ -60,7 +61,7 @@ pub struct Framed<S: Store> {
     /// The frames: each is before those that go on with it.
     pub(crate) frames: Vec<Frame>,
     /// The words of environments, and of the arguments of calls.
-    pub(crate) words: Vec<S::Word>,
+    pub(crate) words: Words<S::Word>,
     /// The arguments of the call that is made.
     pub(crate) arguments: Vec<S::Word>,
     /// Compounds that a head or a goal has.
@@ -191,7 +192,7 @@ impl<S: Cells> Lists<S> for Framed<S> {
         Framed {
             nodes: Vec::new(alloc),
             frames: Vec::new(alloc),
-            words: Vec::new(alloc),
+            words: Words::new(alloc),
             arguments: Vec::new(alloc),
             compounds: Vec::new(alloc),
             made: Vec::new(alloc),

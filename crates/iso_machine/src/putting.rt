@@ -1,5 +1,6 @@
 //! Goals whose arguments were put: their words, what they call, and the call of a clause (7.7.7).
-ghost use Rattle.std.specs.Prelude.{◌≡◌, ◌≢◌, ◌<◌, ◌-◌, ℕ, Ok, Err, IfOk, OnOk, OnErr, length, map, true};
+ghost use Rattle.std.specs.Prelude.{◌≡◌, ◌≢◌, ◌<◌, ◌≤◌, ◌+◌, ◌-◌, ℕ, Ok, Err, IfOk, OnOk, OnErr, length, map, max};
+ghost use Rattle.std.specs.Prelude.{true};
 ghost use Rattle.std.specs.List.{All};
 ghost use Rattle.iso_atoms.specs.Texts.{EachOnce, text_at};
 ghost use Rattle.iso_model.specs.Search.Walker.{State, World};
@@ -12,6 +13,7 @@ ghost use Rattle.iso_program.specs.Keying.{AreKeyed};
 ghost use Rattle.iso_search_core.specs.declared.nows.Now.TheVariants as now;
 ghost use Rattle.iso_frames.specs.declared.frames.Next.TheVariants as next;
 ghost use Rattle.iso_frames.specs.Costs.{compound_cells};
+ghost use Rattle.iso_frames.specs.Frames.{depth_of, top_of};
 ghost use Rattle.iso_environments.specs.Goals.{goal_of};
 ghost use Rattle.iso_environments.specs.Putting.{IsCallThere};
 ghost use Rattle.iso_search.specs.declared.calls.Called.TheVariants as call;
@@ -23,6 +25,7 @@ ghost use Rattle.iso_machine.specs.Came.{Came, CameLast};
 ghost use Rattle.iso_machine.specs.Engines.{Engine, framed};
 ghost use Rattle.iso_machine.specs.GoalCalls.{IsCallPut, IsToCall, IsShown, goal_put};
 ghost use Rattle.iso_machine.specs.Lists.{IsFor, cost_at, extent_of};
+ghost use Rattle.iso_machine.specs.Newest.{frames_kept, words_kept};
 
 use super::calling::{Gone, call, give_up, keep_arguments};
 use super::framed::{Framed, KeptCall};
@@ -57,6 +60,11 @@ fn make_ready<S: Cells + Drop>(
     ensures clauses { search.new.db ≡ search.old.db }
     ensures costs { kept_cost (framed S.atom_word) search.new ≡ kept_cost (framed S.atom_word) search.old }
     ensures behind { cost_at search.new.lists behind ≡ cost_at search.old.lists behind }
+    ensures frames { length search.new.lists.frames.items
+        ≤ max (frames_kept search.old.choices.items) (depth_of behind) }
+    ensures words { IfOk result (λ call. length search.new.lists.words.items
+        ≤ max (words_kept search.old.choices.items) (top_of search.old.lists.frames.items behind)
+        + length search.old.lists.arguments.items) }
     ensures stays { Stays S.Store search.old search.new }
 {
     search.steps -= 1;

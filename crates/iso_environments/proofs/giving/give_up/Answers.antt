@@ -24,5 +24,5 @@ returns-clause-list g c = λ atom_word p nodes ms list.
     c.truncate.new.self.items c.args.words.now.items c.truncate-2.new.self.items
     (c.truncate.ensures.items ∙ ap (λ (n : ℕ). take n c.args.frames.now.items)
     (c.max.ensures ∙ ap (λ (n : ℕ). max c.args.kept_frames n) needed))
-    (c.truncate-2.ensures.items ∙ ap (λ (n : ℕ). take n c.args.words.now.items)
+    (c.truncate-2.ensures ∙ ap (λ (n : ℕ). take n c.args.words.now.items)
     (c.max-2.ensures ∙ ap (λ (n : ℕ). max c.args.kept_words n) top)) (omega arith) (omega arith) list

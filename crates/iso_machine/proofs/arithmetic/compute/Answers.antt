@@ -1,6 +1,6 @@
 use Rattle.std.proofs.Common.{arith}
 use Rattle.std.proofs.lemmas.Result.{IfOk-weaker}
-use Rattle.iso_machine.proofs.ArithmeticMoves.{computed}
+use Rattle.iso_machine.proofs.Moves.Arithmetic.{computed}
 use Rattle.iso_machine.proofs.arithmetic.compute.Goals as goal
 
 pub go_on_from-requires : goal.go_on_from-requires
@@ -8,7 +8,7 @@ go_on_from-requires g c = (
   c.args.search.now,
   computed g.S.Store g.S.Cells.atom_word c.args.search.now c.args.rest c.answer-answered.result
       c.answer-answered.new.store c.answer-answered.new.values c.as_slice.result.now c.as_slice-2.result.now
-      c.requires.now c.requires.there c.requires.more c.as_slice.ensures.value c.as_slice-2.ensures.value
+      c.requires.now c.requires.there c.requires.more c.as_slice.ensures.value c.as_slice-2.ensures
       c.answer-answered.ensures.rest c.answer-answered.ensures.replies c.answer-answered.ensures.cells
       c.answer-answered.ensures.full,
   c.requires.stands,
@@ -19,7 +19,7 @@ returns-clause-came g c =
     c.go_on_from.ensures.came c.args.search.now c.requires.stands.0
     (computed g.S.Store g.S.Cells.atom_word c.args.search.now c.args.rest c.answer-answered.result
     c.answer-answered.new.store c.answer-answered.new.values c.as_slice.result.now c.as_slice-2.result.now
-    c.requires.now c.requires.there c.requires.more c.as_slice.ensures.value c.as_slice-2.ensures.value
+    c.requires.now c.requires.there c.requires.more c.as_slice.ensures.value c.as_slice-2.ensures
     c.answer-answered.ensures.rest c.answer-answered.ensures.replies c.answer-answered.ensures.cells
     c.answer-answered.ensures.full) c.requires.stands.1
 

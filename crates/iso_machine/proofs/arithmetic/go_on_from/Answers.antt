@@ -1,7 +1,7 @@
 use Rattle.std.proofs.Common.{rules, ◌≡◌, ap, ◌∙◌, Ok, Err}
 use Rattle.iso_lib_core.specs.declared.outcomes.Reply.TheVariants as outcome
-use Rattle.iso_machine.proofs.ArithmeticMoves.{ball_fits, chain, done_list, done_moved, fail_moved, fault_came, fault_steps, goes_below, has_answered, some_above, thrown_came}
-use Rattle.iso_machine.proofs.WentMoves.{came_moved, went_not}
+use Rattle.iso_machine.proofs.Moves.Arithmetic.{ball_fits, chain, done_list, done_moved, fail_moved, fault_came, fault_steps, goes_below, has_answered, some_above, thrown_came}
+use Rattle.iso_machine.proofs.Moves.Went.{came_moved, went_not}
 use Rattle.iso_machine.proofs.arithmetic.go_on_from.Goals as goal
 
 pub overflow_sub-behind : goal.overflow_sub-behind

@@ -1,5 +1,5 @@
-use Rattle.iso_machine.proofs.ArithmeticMoves.{none_moved}
-use Rattle.iso_machine.proofs.WentMoves.{moved_came, moved_refused}
+use Rattle.iso_machine.proofs.Moves.Arithmetic.{none_moved}
+use Rattle.iso_machine.proofs.Moves.Went.{moved_came, moved_refused}
 use Rattle.iso_machine.proofs.arithmetic.run_arithmetic.Goals as goal
 
 pub returns-then-search-eq0 : goal.returns-then-search-eq0

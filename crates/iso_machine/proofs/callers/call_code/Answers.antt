@@ -7,7 +7,7 @@ use Rattle.iso_machine.specs.Instructions.{IsInstructionThere}
 use Rattle.iso_machine.specs.Steps.{ActsThere}
 use Rattle.iso_machine.proofs.FirstGoals.{came_left, code_stops, left_to_step}
 use Rattle.iso_machine.proofs.StepLemmas.{acts_other, arithmetic_other}
-use Rattle.iso_machine.proofs.WentMoves.{came_moved, call_not}
+use Rattle.iso_machine.proofs.Moves.Went.{came_moved, call_not}
 use Rattle.iso_machine.proofs.callers.call_code.Goals.{in_default-via-in-Computes+else-search-ne0}
 use Rattle.iso_machine.proofs.callers.call_code.Goals.{in_default-via-in_default}
 use Rattle.iso_machine.proofs.callers.call_code.Goals as goal

@@ -11,7 +11,7 @@ use Rattle.iso_search.proofs.WeightLemmas.{falls_back}
 use Rattle.iso_frames.specs.declared.frames.Rest.{Rest}
 use Rattle.iso_machine.specs.Engines.{Engine, framed}
 use Rattle.iso_machine.specs.Lists.{cost_at}
-use Rattle.iso_machine.proofs.TryMoves.{newest_left}
+use Rattle.iso_machine.proofs.Moves.Try.{newest_left}
 use Rattle.iso_machine.proofs.callers.try_next.Goals as goal
 
 pub leave_choice-below-requires-clause-back : goal.leave_choice-below-requires-clause-back

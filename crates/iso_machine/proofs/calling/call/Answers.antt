@@ -7,7 +7,7 @@ use Rattle.iso_search.specs.EngineStates.{Remains, StandsAs}
 use Rattle.iso_machine.specs.Engines.{Engine, framed}
 use Rattle.iso_machine.specs.LastCalls.{with_frame}
 use Rattle.iso_machine.specs.Lists.{cost_at}
-use Rattle.iso_machine.proofs.EnteredMoves.{error_weaker}
+use Rattle.iso_machine.proofs.Moves.Entered.{error_weaker}
 use Rattle.iso_machine.proofs.calling.call.Goals as goal
 
 pub lacks_room-requires : goal.lacks_room-requires

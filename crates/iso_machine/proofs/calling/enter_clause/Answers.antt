@@ -18,9 +18,9 @@ use Rattle.iso_machine.specs.declared.framed.KeptCall.{KeptCall}
 use Rattle.iso_machine.specs.Engines.{framed}
 use Rattle.iso_machine.specs.Entered.{Comes, IfAt}
 use Rattle.iso_machine.specs.Lists.{cost_at, pending_at}
-use Rattle.iso_machine.proofs.EnteredMoves.{Tried, missed_engine, remains_tried}
+use Rattle.iso_machine.proofs.Moves.Entered.{Tried, missed_engine, remains_tried}
 use Rattle.iso_machine.proofs.FrameLemmas.{adds_keeps, adds_same}
-use Rattle.iso_machine.proofs.FramedMoves.{begun_engine}
+use Rattle.iso_machine.proofs.Moves.Framed.{begun_engine}
 use Rattle.iso_machine.specs.LastCalls.{place_of, with_frames}
 use Rattle.iso_machine.proofs.BodyCells.{clause_cells}
 use Rattle.iso_machine.proofs.LastEntered.{frames_last, has_last, last_costs, last_grows, last_unframed}

@@ -1,7 +1,7 @@
 use Rattle.std.proofs.Common.{ap, rules}
 use Rattle.iso_search.proofs.AheadLemmas.{keeps_ahead}
 use Rattle.iso_machine.specs.Engines.{Engine, framed}
-use Rattle.iso_machine.proofs.CutMoves.{below, cut_at, cut_ahead, cut_moved}
+use Rattle.iso_machine.proofs.Moves.Cut.{below, cut_at, cut_ahead, cut_moved}
 use Rattle.iso_machine.proofs.control.cut_back.Goals as goal
 
 pub height_at-height-requires : goal.height_at-height-requires

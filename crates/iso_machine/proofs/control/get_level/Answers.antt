@@ -1,9 +1,9 @@
 use Rattle.std.proofs.Common.{refl, ◌∙◌, rules}
 use Rattle.iso_search.proofs.MovedLemmas.{frames_full, no_lists}
 use Rattle.iso_machine.specs.Engines.{framed}
-use Rattle.iso_machine.proofs.FrameLemmas.{adds_keeps, adds_same}
-use Rattle.iso_machine.proofs.InstructionMoves.{code_ahead}
-use Rattle.iso_machine.proofs.LevelMoves.{level_beyond, level_some, level_low, level_split, level_goes, level_moved, made_clause, made_inside}
+use Rattle.iso_machine.proofs.FrameLemmas.{adds_keeps, adds_same, stacked_same}
+use Rattle.iso_machine.proofs.Moves.Instruction.{code_ahead}
+use Rattle.iso_machine.proofs.Moves.Level.{level_beyond, level_some, level_low, level_split, level_goes, level_moved, made_clause, made_inside}
 use Rattle.iso_machine.proofs.control.get_level.Goals as goal
 
 pub has_room-requires : goal.has_room-requires
@@ -31,7 +31,7 @@ returns-in_err-made g c =
     let more = record e.lists { frames = c.push_level.new.frames } in
     no_lists g.S.Store (framed g.S.Cells.atom_word) e more
     (adds_keeps g.S.Cells.atom_word e.lists more (adds_same {old = e.lists.nodes} refl) c.in_err-made.ensures.stand
-    (adds_same {old = e.lists.words} refl)) c.from_residual.result c.from_residual.ensures.0 (search rules)
+    (stacked_same {old = e.lists.words} refl)) c.from_residual.result c.from_residual.ensures.0 (search rules)
 
 pub other_at-requires : goal.other_at-requires
 other_at-requires g c =

@@ -2,7 +2,7 @@ use Rattle.std.proofs.Common.{◌≡◌, Some, sym, ◌∙◌, subst}
 use Rattle.iso_instructions.specs.declared.instructions.Instruction.{Instruction}
 use Rattle.iso_instructions.specs.declared.instructions.Instruction.TheVariants as instruction
 use Rattle.iso_machine.specs.Instructions.{IsInstructionThere}
-use Rattle.iso_machine.proofs.LevelMoves.{instruction_read, instruction_there}
+use Rattle.iso_machine.proofs.Moves.Level.{instruction_read, instruction_there}
 use Rattle.iso_machine.proofs.control.other_at.Goals as goal
 
 pub returns-in-TryElse : goal.returns-in-TryElse

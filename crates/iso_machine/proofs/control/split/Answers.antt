@@ -1,6 +1,6 @@
 use Rattle.std.proofs.Common.{◌-◌, arith, rules}
 use Rattle.iso_machine.specs.Instructions.{at_address}
-use Rattle.iso_machine.proofs.SplitMoves.{split_full, split_list, split_on, split_refused}
+use Rattle.iso_machine.proofs.Moves.Split.{split_full, split_list, split_on, split_refused}
 use Rattle.iso_machine.proofs.control.split.Goals as goal
 
 pub has_room-requires : goal.has_room-requires

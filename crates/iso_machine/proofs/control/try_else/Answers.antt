@@ -1,4 +1,4 @@
-use Rattle.iso_machine.proofs.InstructionMoves.{try_some, try_split}
+use Rattle.iso_machine.proofs.Moves.Instruction.{try_some, try_split}
 use Rattle.iso_machine.proofs.control.try_else.Goals as goal
 
 pub split-requires-clause-address : goal.split-requires-clause-address

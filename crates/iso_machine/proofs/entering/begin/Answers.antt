@@ -29,11 +29,11 @@ returns-clause-list g c = λ p names d below environment ms words has list.
     let a = g.S.Cells.atom_word in
     let old = c.args.lists.now in
     let nodes = old.nodes.items in
-    let there = c.in_ok-place.ensures.list a p nodes below environment names d ms (c.as_slice.ensures.value ∙ words) has
+    let there = c.in_ok-place.ensures.list a p nodes below environment names d ms (c.as_slice.ensures ∙ words) has
     list in
     whole_list a (record old { frames = c.push_clause.new.frames })
     (subst (λ (ws : List g.row.S-Word.Denot). Chain a p (stack nodes c.push_clause.new.frames.items ws)
-    (Some c.in_ok-place.place) (clause_members p environment c.args.mark d ++ ms)) c.as_slice.ensures.value there)
+    (Some c.in_ok-place.place) (clause_members p environment c.args.mark d ++ ms)) c.as_slice.ensures there)
 
 pub returns-clause-cost : goal.returns-clause-cost
 returns-clause-cost g c =
@@ -50,5 +50,5 @@ pub returns-then-is_one_call-clause-last : goal.returns-then-is_one_call-clause-
 returns-then-is_one_call-clause-last g c = λ done. (
   c.if-last.true,
   refl,
-  subst (λ (code : Code). CallsAlone code) c.as_ref-then-last.ensures (c.is_one_call.ensures c.if-is_one_call.true),
+  subst (λ (code : Code). CallsAlone code) c.as_ref-then-last.ensures (c.is_one_call.ensures.alone c.if-is_one_call.true),
 )

@@ -37,7 +37,8 @@ returns-then-not-is_called-clause-comes g c = λ d t ms is calls list.
     let text = text_at names c.args.call.name in
     let named = call_named a l calls text (g.met.S.Cells.named c.args.store.now c.args.call.name calls.known).1 in
     call_other a l calls text named d.head is.head_template.is is.head_template.key.0 is.head_template.key.1
-    (c.is_called.ensures.other d.head is.head c.if-not-is_called.true)
+    (c.is_called.ensures.other d (subst (λ (code : Code). KeepsCode names code d) (sym c.as_ref.ensures) is.own)
+    c.if-not-is_called.true)
 
 pub returns-then-not-met-clause-comes : goal.returns-then-not-met-clause-comes
 returns-then-not-met-clause-comes g c = λ d t ms is calls list.
@@ -48,10 +49,11 @@ returns-then-not-met-clause-comes g c = λ d t ms is calls list.
     let names = g.S.Store.names c.args.store.now in
     let text = text_at names c.args.call.name in
     let named = call_named a l calls text (g.met.S.Cells.named c.args.store.now c.args.call.name calls.known).1 in
-    let found = c.is_called.ensures.same d.head is.head c.if-not-is_called.false in
+    let found = c.is_called.ensures.same d
+    (subst (λ (code : Code). KeepsCode names code d) (sym c.as_ref.ensures) is.own) c.if-not-is_called.false in
     let same = call_key a l calls text named d.head found in
-    let keeps : KeepsCode names c.as_ref.result.now d =
-    subst (λ (code : Code). KeepsCode names code d) (sym c.as_ref.ensures) is.own in
+    let keeps : KeepsCode names c.as_ref-2.result.now d =
+    subst (λ (code : Code). KeepsCode names code d) (sym c.as_ref-2.ensures) is.own in
     let arguments = arguments_at l c.args.call in
     let own = drop (length l.words.items) c.meet_clause.new.words.items in
     let met = c.in_ok-met.ensures.meets calls.name d keeps (head_arity d.head text c.args.call.count found) in
@@ -68,10 +70,11 @@ returns-clause-comes g c = λ d t ms is calls list.
     let names = g.S.Store.names c.args.store.now in
     let text = text_at names c.args.call.name in
     let named = call_named a l calls text (g.met.S.Cells.named c.args.store.now c.args.call.name calls.known).1 in
-    let found = c.is_called.ensures.same d.head is.head c.if-not-is_called.false in
+    let found = c.is_called.ensures.same d
+    (subst (λ (code : Code). KeepsCode names code d) (sym c.as_ref.ensures) is.own) c.if-not-is_called.false in
     let same = call_key a l calls text named d.head found in
-    let keeps : KeepsCode names c.as_ref.result.now d =
-    subst (λ (code : Code). KeepsCode names code d) (sym c.as_ref.ensures) is.own in
+    let keeps : KeepsCode names c.as_ref-2.result.now d =
+    subst (λ (code : Code). KeepsCode names code d) (sym c.as_ref-2.ensures) is.own in
     let arguments = arguments_at l c.args.call in
     let old = l.words.items in
     let new = c.meet_clause.new.words.items in
@@ -80,7 +83,7 @@ returns-clause-comes g c = λ d t ms is calls list.
     let met = c.in_ok-met.ensures.meets calls.name d keeps (head_arity d.head text c.args.call.count found) in
     let h : HasMet p q calls.name arguments ts own true =
     subst (λ (b : Bool). HasMet p q calls.name arguments ts own b) c.if-not-met.false met in
-    let kept = ap (λ (code : Code). code.variables) c.as_ref.ensures in
+    let kept = ap (λ (code : Code). code.variables) c.as_ref-2.ensures in
     let long = c.in_ok-met.ensures.environment in
     let behind = length-drop (length old) new in
     let many : length own ≡ c.args.clause.now.own.kept.value.variables = omega (arith, kept, long, behind) in
@@ -122,10 +125,11 @@ returns-clause-last g c = λ fs d t ms done framed is calls list.
     let names = g.S.Store.names c.args.store.now in
     let text = text_at names c.args.call.name in
     let named = call_named a l calls text (g.met.S.Cells.named c.args.store.now c.args.call.name calls.known).1 in
-    let found = c.is_called.ensures.same d.head is.head c.if-not-is_called.false in
+    let found = c.is_called.ensures.same d
+    (subst (λ (code : Code). KeepsCode names code d) (sym c.as_ref.ensures) is.own) c.if-not-is_called.false in
     let same = call_key a l calls text named d.head found in
-    let keeps : KeepsCode names c.as_ref.result.now d =
-    subst (λ (code : Code). KeepsCode names code d) (sym c.as_ref.ensures) is.own in
+    let keeps : KeepsCode names c.as_ref-2.result.now d =
+    subst (λ (code : Code). KeepsCode names code d) (sym c.as_ref-2.ensures) is.own in
     let arguments = arguments_at l c.args.call in
     let old = l.words.items in
     let new = c.meet_clause.new.words.items in
@@ -134,7 +138,7 @@ returns-clause-last g c = λ fs d t ms done framed is calls list.
     let met = c.in_ok-met.ensures.meets calls.name d keeps (head_arity d.head text c.args.call.count found) in
     let h : HasMet p q calls.name arguments ts own true =
     subst (λ (b : Bool). HasMet p q calls.name arguments ts own b) c.if-not-met.false met in
-    let kept = ap (λ (code : Code). code.variables) c.as_ref.ensures in
+    let kept = ap (λ (code : Code). code.variables) c.as_ref-2.ensures in
     let long = c.in_ok-met.ensures.environment in
     let behind = length-drop (length old) new in
     let many : length own ≡ c.args.clause.now.own.kept.value.variables = omega (arith, kept, long, behind) in

@@ -4,22 +4,23 @@ use Rattle.std.proofs.lemmas.Slice.Eq.{bytes_eq-Decides}
 use Rattle.iso_model.specs.Search.Keys.{key}
 use Rattle.iso_store_core.proofs.AtomLemmas.{text-is}
 use Rattle.iso_machine.proofs.GoalLemmas.{name_is}
+use Rattle.iso_machine.proofs.KeyLemmas.{code_key}
 use Rattle.iso_machine.proofs.entering.is_called.Goals as goal
 
 pub returns-else-eq-clause-same : goal.returns-else-eq-clause-same
-returns-else-eq-clause-same g c = λ t pattern is.
+returns-else-eq-clause-same g c = λ d k is.
     let names = g.S.Store.names c.args.store.now in
-    let own = text-is names c.key_of_head-name.result.0 c.text.result.now c.text.ensures in
+    let own = text-is names c.args.code.now.name c.text.result.now c.text.ensures in
     let called = text-is names c.args.call.name c.text-else-eq.result.now c.text-else-eq.ensures in
     let same = (bytes_eq-Decides c.text.result.now c.text-else-eq.result.now).0 (sym c.eq-else-eq.ensures ∙ is) in
-    (c.key_of_head-name.ensures names t pattern).1
-    ∙ ap₂ (λ (f : List ℕ) (n : ℕ). Some (key f n)) (own ∙ (same ∙ sym called)) c.if-count-call.false
+    code_key k
+    ∙ ap₂ (λ (f : List ℕ) (n : ℕ). Some (key f n)) (own ∙ (same ∙ sym called)) c.if-code-call.false
 
 pub returns-else-eq-clause-other : goal.returns-else-eq-clause-other
-returns-else-eq-clause-other g c = λ t pattern is key_is.
+returns-else-eq-clause-other g c = λ d k is key_is.
     let names = g.S.Store.names c.args.store.now in
-    let own = text-is names c.key_of_head-name.result.0 c.text.result.now c.text.ensures in
+    let own = text-is names c.args.code.now.name c.text.result.now c.text.ensures in
     let called = text-is names c.args.call.name c.text-else-eq.result.now c.text-else-eq.ensures in
-    let same = name_is (sym (c.key_of_head-name.ensures names t pattern).1 ∙ key_is) in
+    let same = name_is (sym (code_key k) ∙ key_is) in
     let equal = (bytes_eq-Decides c.text.result.now c.text-else-eq.result.now).1 (sym own ∙ (same ∙ called)) in
     false≢true (sym is ∙ (c.eq-else-eq.ensures ∙ equal))

@@ -1,17 +1,24 @@
-use Rattle.std.proofs.Common.{◌≡◌, ◌∙◌, Some, length, sym, ap, arith}
-use Rattle.std.proofs.lemmas.Option.{slice_get-get_or}
+use Rattle.std.proofs.Common.{◌≡◌, ◌∙◌, List, [], ◌∷◌, Some, length, refl, sym}
+use Rattle.std.specs.List.{slice_get}
+use Rattle.iso_instructions.specs.Forms.{form_of}
+use Rattle.iso_instructions.specs.declared.instructions.Form.TheVariants.{OneCall}
+use Rattle.iso_instructions.specs.declared.instructions.Goal as instruction
+use Rattle.iso_instructions.specs.declared.instructions.Instruction.{Instruction}
+use Rattle.iso_instructions.specs.declared.instructions.Instruction.TheVariants.{Execute, Proceed}
 use Rattle.iso_machine.proofs.entering.is_one_call.Goals as goal
 
-pub returns-in-Execute : goal.returns-in-Execute
-returns-in-Execute c = λ found.
-    let items = c.args.code.now.body.items in
-    let long = c.args.code.now.body.ok.0 in
-    let many = c.len.ensures in
-    let two : length items ≡ 2 = omega (arith, c.if-len-ne2.false, long, many) in
-    record {
-      goal = c.in-Execute.field-0;
-      called =
-          slice_get-get_or items 1 c.index.result.now (omega (arith, two))
-          ∙ ap Some (sym c.index.ensures ∙ c.in-Execute.is);
-      two = two;
-    }
+-- a body of this form is one call
+calls_one : (code : List Instruction) → form_of code ≡ OneCall
+    → (g : instruction.Goal) × (slice_get code 1 ≡ Some (Execute g)) × (length code ≡ 2)
+calls_one [] is = absurd (cc)
+calls_one (Proceed ∷ []) is = absurd (cc)
+calls_one (i ∷ []) is = absurd (cc)
+calls_one (i ∷ Execute g ∷ []) is = (g, refl, refl)
+calls_one (i ∷ Execute g ∷ j ∷ code) is = absurd (cc)
+calls_one (i ∷ j ∷ code) is = absurd (cc)
+
+pub returns-in-OneCall-clause-alone : goal.returns-in-OneCall-clause-alone
+returns-in-OneCall-clause-alone c = λ is.
+    (let code = c.args.code.now in
+    let one = calls_one code.body.items (sym code.formed ∙ c.in-OneCall.is) in
+    record { goal = one.0; called = one.1; two = one.2 })

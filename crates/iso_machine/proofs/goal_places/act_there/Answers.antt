@@ -1,7 +1,7 @@
 use Rattle.std.proofs.Common.{subst}
 use Rattle.iso_machine.specs.Instructions.{IsInstructionThere}
 use Rattle.iso_machine.proofs.FirstGoals.{called_there, executed_there, no_call}
-use Rattle.iso_machine.proofs.LevelMoves.{instruction_read}
+use Rattle.iso_machine.proofs.Moves.Level.{instruction_read}
 use Rattle.iso_machine.proofs.StepLemmas.{computed_there, no_arithmetic}
 use Rattle.iso_machine.proofs.goal_places.act_there.Goals as goal
 use Rattle.iso_machine.proofs.goal_places.act_there.Goals.{After-index}

@@ -3,7 +3,7 @@ use Rattle.iso_search.specs.declared.calls.Called.TheVariants as call
 use Rattle.iso_search.specs.declared.calls.Next.TheVariants as calls
 use Rattle.iso_machine.specs.Came.{CameTo}
 use Rattle.iso_machine.proofs.CameLemmas.{full_behind}
-use Rattle.iso_machine.proofs.GoalMoves.{put_called}
+use Rattle.iso_machine.proofs.Moves.Goal.{put_called}
 use Rattle.iso_machine.proofs.LastCame.{first_goal, next_error, next_full, next_last, next_not, next_there, next_went, whole}
 use Rattle.iso_machine.proofs.goals.call_goal.Goals as goal
 use Rattle.iso_machine.proofs.goals.call_goal.Goals.{In-Went, in_default-via-in-User+else-search-ne0, in_default-via-in_default}

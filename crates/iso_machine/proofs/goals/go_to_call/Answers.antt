@@ -6,7 +6,7 @@ use Rattle.iso_environments.specs.Putting.{IsCallThere}
 use Rattle.iso_instructions.specs.declared.instructions.Instruction.TheVariants as instruction
 use Rattle.iso_machine.specs.Instructions.{IsInstructionThere}
 use Rattle.iso_machine.proofs.FirstGoals.{code_stops}
-use Rattle.iso_machine.proofs.WentMoves.{behind_more, behind_none, came_moved, refused_behind, went_not}
+use Rattle.iso_machine.proofs.Moves.Went.{behind_more, behind_none, came_moved, refused_behind, went_not}
 use Rattle.iso_machine.proofs.goals.go_to_call.Goals as goal
 use Rattle.iso_machine.proofs.goals.go_to_call.Goals.{In-Code}
 

@@ -1,7 +1,7 @@
 use Rattle.std.proofs.Common.{refl}
 use Rattle.iso_store_core.specs.declared.shapes.StoreFault.TheVariants as fault
 use Rattle.iso_machine.proofs.CameLemmas.{came_not, came_same, full_behind}
-use Rattle.iso_machine.proofs.GoalMoves.{word_called, word_refused}
+use Rattle.iso_machine.proofs.Moves.Goal.{word_called, word_refused}
 use Rattle.iso_machine.proofs.goals.go_word.Goals as goal
 
 pub name_of-name-requires-clause-named : goal.name_of-name-requires-clause-named

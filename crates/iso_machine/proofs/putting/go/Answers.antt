@@ -3,8 +3,8 @@ use Rattle.iso_store_core.specs.declared.shapes.StoreFault.TheVariants as fault
 use Rattle.iso_search.proofs.LimitLemmas.{stays_next, stays_on}
 use Rattle.iso_machine.proofs.CameLemmas.{came_error, last_error}
 use Rattle.iso_machine.specs.LastCalls.{with_frame}
-use Rattle.iso_machine.proofs.LastMoves.{stays_framed}
-use Rattle.iso_machine.proofs.GoMoves.{go_behind, go_calls, go_falls, go_full, go_refused, go_went, ready_refused}
+use Rattle.iso_machine.proofs.Moves.Last.{stays_framed}
+use Rattle.iso_machine.proofs.Moves.Go.{go_behind, go_calls, go_falls, go_full, go_refused, go_went, ready_refused}
 use Rattle.iso_machine.proofs.putting.go.Goals as goal
 
 pub make_ready-requires-clause-stands : goal.make_ready-requires-clause-stands

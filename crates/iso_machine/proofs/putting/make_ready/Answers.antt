@@ -1,8 +1,13 @@
+use Rattle.std.proofs.Common.{◌≤◌, ap, arith, length, max, subst, sym}
+use Rattle.std.proofs.lemmas.Result.{IfOk-weaker}
 use Rattle.iso_atoms.specs.Texts.{text_at}
 use Rattle.iso_writing.specs.Writing.{Adds}
+use Rattle.iso_frames.specs.Frames.{depth_of}
 use Rattle.iso_machine.specs.Engines.{framed}
+use Rattle.iso_machine.specs.Newest.{frames_kept}
+use Rattle.iso_machine.specs.declared.framed.Framed.{Framed}
 use Rattle.iso_machine.proofs.AddedLemmas.{IsGrown}
-use Rattle.iso_machine.proofs.GoMoves.{kept_ahead, kept_behind, kept_costs, kept_hold, kept_names, kept_result, kept_stays, known_grown, ready_ahead}
+use Rattle.iso_machine.proofs.Moves.Go.{kept_ahead, kept_behind, kept_costs, kept_hold, kept_names, kept_result, kept_stays, known_grown, ready_ahead}
 use Rattle.iso_machine.proofs.putting.make_ready.Given.{Over}
 use Rattle.iso_machine.proofs.putting.make_ready.Goals as goal
 use Rattle.iso_machine.proofs.putting.make_ready.Goals.{After-keep_arguments}
@@ -77,3 +82,15 @@ returns-clause-stays g c =
     kept_stays g.S.Store g.S.Cells.atom_word c.args.behind c.requires.more (grown g c) (adds g c)
     c.give_up.ensures.same c.keep_arguments.ensures.keeps c.keep_arguments.ensures.words c.keep_arguments.ensures.same
     c.give_up.ensures.stays
+
+pub returns-clause-frames : goal.returns-clause-frames
+returns-clause-frames g c =
+    subst (λ (l : Framed g.row.S.Denot g.row.S-Word.Denot g.row.S-Mark.Denot). length l.frames.items
+    ≤ max (frames_kept c.args.search.now.choices.items) (depth_of c.args.behind))
+    (sym c.keep_arguments.ensures.same) c.give_up.ensures.frames
+
+pub returns-clause-words : goal.returns-clause-words
+returns-clause-words g c =
+    let same = ap (λ (l : Framed g.row.S.Denot g.row.S-Word.Denot g.row.S-Mark.Denot). length l.arguments.items) c.give_up.ensures.arguments in
+    let few = c.give_up.ensures.words in
+    IfOk-weaker c.keep_arguments.result _ _ (λ call long. omega (arith, same, few, long)) c.keep_arguments.ensures.many

@@ -3,7 +3,7 @@ use Rattle.iso_frames.specs.Costs.{compound_cells}
 use Rattle.iso_program.proofs.ResultLemmas.{behind_error}
 use Rattle.iso_machine.specs.Engines.{framed}
 use Rattle.iso_machine.proofs.AddedLemmas.{store_grown}
-use Rattle.iso_machine.proofs.GoalMoves.{show_refused, shown}
+use Rattle.iso_machine.proofs.Moves.Goal.{show_refused, shown}
 use Rattle.iso_machine.proofs.putting.show_goal.Goals as goal
 
 pub returns-in_err-goal-clause-stopped : goal.returns-in_err-goal-clause-stopped

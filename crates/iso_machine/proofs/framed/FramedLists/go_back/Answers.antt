@@ -9,4 +9,4 @@ returns-clause-keeps g c =
       frames = c.truncate-2.new.self;
       words = c.truncate-3.new.self;
     }) c.args.kept c.requires c.truncate.ensures.items c.truncate-2.ensures.items
-    c.truncate-3.ensures.items
+    c.truncate-3.ensures

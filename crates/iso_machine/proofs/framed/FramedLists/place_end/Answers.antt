@@ -6,7 +6,7 @@ use Rattle.iso_search_core.specs.declared.ends.End.{End}
 use Rattle.iso_plain_core.specs.declared.members.Todo.TheVariants as todo
 use Rattle.iso_plain_core.specs.Standing.{a_cut, a_failure, an_end, a_template}
 use Rattle.iso_machine.specs.Lists.{IsList, extent_of, cost_at}
-use Rattle.iso_machine.proofs.FrameLemmas.{adds_keeps, adds_same, adds_both, list_on, cost_same, body_on}
+use Rattle.iso_machine.proofs.FrameLemmas.{adds_keeps, adds_same, stacked_same, adds_both, list_on, cost_same, body_on}
 use Rattle.iso_machine.proofs.framed.FramedLists.place_end.Goals as goal
 
 pub returns-in-CutTo-clause-placed : goal.returns-in-CutTo-clause-placed
@@ -29,7 +29,7 @@ returns-in-CutTo-clause-cost g c =
 pub returns-in-CutTo-clause-keeps : goal.returns-in-CutTo-clause-keeps
 returns-in-CutTo-clause-keeps g c =
     adds_keeps g.S.Cells.atom_word c.args.self.now c.push_member.new.self (adds_same c.push_member.ensures.nodes)
-    c.push_member.ensures.frames (adds_same c.push_member.ensures.words)
+    c.push_member.ensures.frames (stacked_same c.push_member.ensures.words)
 
 pub returns-in-Leave-clause-placed : goal.returns-in-Leave-clause-placed
 returns-in-Leave-clause-placed g c =
@@ -52,13 +52,13 @@ pub returns-in-Leave-clause-keeps : goal.returns-in-Leave-clause-keeps
 returns-in-Leave-clause-keeps g c =
     adds_keeps g.S.Cells.atom_word c.args.self.now c.push_member-in-Leave.new.self
     (adds_same c.push_member-in-Leave.ensures.nodes) c.push_member-in-Leave.ensures.frames
-    (adds_same c.push_member-in-Leave.ensures.words)
+    (stacked_same c.push_member-in-Leave.ensures.words)
 
 pub returns-in_err-failure-in-Refute-clause-keeps : goal.returns-in_err-failure-in-Refute-clause-keeps
 returns-in_err-failure-in-Refute-clause-keeps g c =
     adds_keeps g.S.Cells.atom_word c.args.self.now c.push_member-in-Refute.new.self
     (adds_same c.push_member-in-Refute.ensures.nodes) c.push_member-in-Refute.ensures.frames
-    (adds_same c.push_member-in-Refute.ensures.words)
+    (stacked_same c.push_member-in-Refute.ensures.words)
 
 pub returns-in_ok-failure-in-Refute-clause-placed : goal.returns-in_ok-failure-in-Refute-clause-placed
 returns-in_ok-failure-in-Refute-clause-placed g c =
@@ -88,12 +88,12 @@ returns-in_ok-failure-in-Refute-clause-keeps g c =
     let second = c.push_member-in-Refute-2.ensures in
     adds_keeps g.S.Cells.atom_word c.args.self.now c.push_member-in-Refute-2.new.self
     (adds_same (second.nodes ∙ first.nodes)) (adds_both c.args.self.now.frames.items first.frames second.frames)
-    (adds_same (second.words ∙ first.words))
+    (stacked_same (second.words ∙ first.words))
 
 pub returns-in_err-place-in-Gather-clause-keeps : goal.returns-in_err-place-in-Gather-clause-keeps
 returns-in_err-place-in-Gather-clause-keeps g c =
     adds_keeps g.S.Cells.atom_word c.args.self.now c.push_goal.new.self c.push_goal.ensures.nodes
-    (adds_same c.push_goal.ensures.frames) (adds_same c.push_goal.ensures.words)
+    (adds_same c.push_goal.ensures.frames) (stacked_same c.push_goal.ensures.words)
 
 pub returns-in_err-place-in-Gather-clause-bodies : goal.returns-in_err-place-in-Gather-clause-bodies
 returns-in_err-place-in-Gather-clause-bodies g c =
@@ -105,7 +105,7 @@ returns-in_ok-place-in-Gather-clause-placed g c =
     let held = subst (λ (e : End g.row.S-Word.Denot). EndHolds p e) c.in-Gather.is holds in
     let body = c.in_ok-place-in-Gather.ensures.placed p held in
     let on = list_on g.S.Cells.atom_word c.args.self.now c.push_goal.new.self c.push_goal.ensures.nodes
-    (adds_same c.push_goal.ensures.frames) (adds_same c.push_goal.ensures.words) list in
+    (adds_same c.push_goal.ensures.frames) (stacked_same c.push_goal.ensures.words) list in
     subst (λ (e : End g.row.S-Word.Denot). IfOk c.push_member-in-Gather.result
     (λ place. IsList g.S.Cells.atom_word p c.push_member-in-Gather.new.self (extent_of c.push_member-in-Gather.new.self)
     place (ending p e ms))) (sym c.in-Gather.is)
@@ -128,7 +128,7 @@ returns-in_ok-place-in-Gather-clause-keeps g c =
     let second = c.push_member-in-Gather.ensures in
     adds_keeps g.S.Cells.atom_word c.args.self.now c.push_member-in-Gather.new.self
     (adds_both c.args.self.now.nodes.items first.nodes (adds_same second.nodes)) (adds_both c.args.self.now.frames.items
-    (adds_same first.frames) second.frames) (adds_same (second.words ∙ first.words))
+    (adds_same first.frames) second.frames) (stacked_same (second.words ∙ first.words))
 
 pub returns-in_ok-place-in-Gather-clause-bodies : goal.returns-in_ok-place-in-Gather-clause-bodies
 returns-in_ok-place-in-Gather-clause-bodies g c =

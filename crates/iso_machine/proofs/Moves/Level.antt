@@ -52,9 +52,9 @@ use Rattle.iso_machine.specs.Lists.{IsList, KeepsFrames, cost_at, extent_of, sta
 use Rattle.iso_machine.specs.Engines.{Engine, IsBeyond, framed}
 use Rattle.iso_machine.specs.Instructions.{IsInstructionThere, Splits, IsSplit, at_address}
 use Rattle.iso_machine.proofs.BeyondLemmas.{comes_beyond, goal_runs, open_runs}
-use Rattle.iso_machine.proofs.FrameLemmas.{adds_keeps, adds_same}
+use Rattle.iso_machine.proofs.FrameLemmas.{adds_keeps, adds_same, stacked_same}
 use Rattle.iso_machine.proofs.InstructionLemmas.{IsFrame, address_cost, address_pending, leveled_frame, leveled_left, leveled_cost, leveled_pending}
-use Rattle.iso_machine.proofs.InstructionMoves.{AtInstruction, at_instruction, code_ahead, frame_ahead, try_splits}
+use Rattle.iso_machine.proofs.Moves.Instruction.{AtInstruction, at_instruction, code_ahead, frame_ahead, try_splits}
 
 -- the instruction there, by the frame's own code
 pub instruction_there : (frames : List Frame) (r : Rest) (i : Instruction) (f : Frame) (code : Rc Code Global)
@@ -148,7 +148,7 @@ module _ {S W M : Type 0} (g : Ghosts S W M) (atom_word : ℕ → W) where
     pub level_keeps : KeepsFrames atom_word (λ j. Unit {0}) e.lists more
     level_keeps =
         adds_keeps atom_word e.lists more (adds_same {old = e.lists.nodes} refl) stand
-        (adds_same {old = e.lists.words} refl)
+        (stacked_same {old = e.lists.words} refl)
 
     module _ (s : State) (stands : Represents g (framed atom_word) e s) where
       abbrev own : State

@@ -24,8 +24,8 @@ use Rattle.iso_search.proofs.Moves.Search.{refuses_here}
 use Rattle.iso_search.proofs.StoppedLemmas.{keeps_all}
 use Rattle.iso_machine.specs.Lists.{stack_of}
 use Rattle.iso_machine.proofs.AddedLemmas.{IsGrown, remains_grown}
-use Rattle.iso_machine.proofs.GoalMoves.{at_code, put_call, put_grown, put_refused, same_keeps}
-use Rattle.iso_machine.proofs.InstructionMoves.{code_ahead}
+use Rattle.iso_machine.proofs.Moves.Goal.{at_code, put_call, put_grown, put_refused, same_keeps}
+use Rattle.iso_machine.proofs.Moves.Instruction.{code_ahead}
 use Rattle.iso_environments.specs.declared.putting.Put.{Put}
 use Rattle.iso_search_core.specs.declared.nows.Now.{Now}
 use Rattle.iso_search_core.specs.declared.nows.Now.TheVariants as now
@@ -49,7 +49,7 @@ use Rattle.iso_machine.specs.LastCalls.{IsUnframed, with_frame}
 use Rattle.iso_machine.specs.Lists.{IsList, KeepsFrames, cost_at, extent_of, pending_at}
 use Rattle.iso_machine.specs.Wholes.{whole_chain, whole_list}
 use Rattle.iso_machine.proofs.PlaceLemmas.{EndsAt}
-use Rattle.iso_machine.proofs.GivenMoves.{KeepsFew, given_ahead, given_cost, given_keeps, newest_most}
+use Rattle.iso_machine.proofs.Moves.Given.{KeepsFew, given_ahead, given_cost, given_keeps, newest_most}
 
 module _ {S W M : Type 0} (g : Ghosts S W M) (atom_word : ℕ → W) (e : Engine S W M) {frames : Vec Frame Global}
     {rest : Rest} {clause : ℕ} {behind : Option Rest} (h : IsUnframed e frames rest clause behind) where

@@ -24,7 +24,7 @@ use Rattle.iso_machine.specs.declared.framed.Framed.{Framed}
 use Rattle.iso_machine.specs.Engines.{Engine, framed}
 use Rattle.iso_machine.specs.Entered.{Begins}
 use Rattle.iso_machine.specs.Lists.{extent_of, list_values, pending_at}
-use Rattle.iso_machine.proofs.EnteredMoves.{Tried, body_engine, body_fitting, fact_engine, onward}
+use Rattle.iso_machine.proofs.Moves.Entered.{Tried, body_engine, body_fitting, fact_engine, onward}
 
 -- the members that a body is: none where it is `true`, or one
 members_if : {W : Type 0} (q : Present W) (words : List W) (height : ℕ) (b : Body) (alone : Bool) → List Member

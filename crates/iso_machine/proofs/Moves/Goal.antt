@@ -44,17 +44,17 @@ use Rattle.iso_machine.specs.Engines.{Engine, framed}
 use Rattle.iso_machine.specs.GoalCalls.{IsCallPut, IsShown, IsToCall, goal_put}
 use Rattle.iso_machine.specs.Lists.{KeepsFrames, extent_of, list_words, pending_at, stack_of}
 use Rattle.iso_machine.proofs.AddedLemmas.{IsGrown, ahead_added, fits_grown, remains_grown, stays_grown, weight_less}
-use Rattle.iso_machine.proofs.FrameLemmas.{adds_keeps, adds_same}
+use Rattle.iso_machine.proofs.FrameLemmas.{adds_keeps, adds_same, stacked_same}
 use Rattle.iso_machine.specs.Wholes.{whole_chain, whole_list}
 use Rattle.iso_machine.proofs.GoalTerms.{goal_few, goal_named, put_few}
-use Rattle.iso_machine.proofs.InstructionMoves.{code_ahead}
+use Rattle.iso_machine.proofs.Moves.Instruction.{code_ahead}
 
 module _ {S W M : Type 0} (g : Ghosts S W M) (atom_word : ℕ → W) where
   -- lists whose nodes, frames and words are the same
   pub same_keeps : (old new : Framed S W M) → new.nodes ≡ old.nodes → new.frames ≡ old.frames → new.words ≡ old.words
       → KeepsFrames atom_word (λ j. Unit {0}) old new
   same_keeps old new nodes frames words =
-      adds_keeps atom_word old new (adds_same nodes) (adds_same frames) (adds_same words)
+      adds_keeps atom_word old new (adds_same nodes) (adds_same frames) (stacked_same words)
 
   -- ---- a goal that a word stands for
 

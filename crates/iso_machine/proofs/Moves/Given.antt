@@ -21,6 +21,7 @@ use Rattle.iso_machine.specs.declared.framed.KeptCall.{KeptCall}
 use Rattle.iso_machine.specs.declared.framed.Framed.{Framed}
 use Rattle.iso_machine.specs.Engines.{Engine, framed}
 use Rattle.iso_machine.specs.Lists.{IsList, IsNoMore, IsWithin, KeepsFrames, extent_of, pending_at}
+use Rattle.iso_machine.specs.Newest.{frames_kept, frames_of, words_kept, words_of}
 use Rattle.iso_machine.proofs.FrameLemmas.{taken_keeps}
 
 pub place_stands : (frames : List Frame) (place : Option Rest) → IsBefore place (length frames) → IsPlace frames place
@@ -53,6 +54,13 @@ among_end x (z ∷ xs) y (inr h) = elim (among_end x xs y h) [
 -- of so many frames and words no more are kept
 abbrev pub KeepsFew : ℕ → ℕ → Extent → Type 0
 KeepsFew frames words j = (j.frames ≤ frames) × (j.words ≤ words)
+
+module _ {W M : Type 0} where
+  -- what is said of the newest choice is what it keeps
+  pub newest_keeps : (cs : List (kept.Choice W M Extent (Option Rest) KeptCall)) (frames words : ℕ)
+      → frames ≡ frames_kept cs → words ≡ words_kept cs → (c : kept.Choice W M Extent (Option Rest) KeptCall)
+      → slice_get cs (length cs - 1) ≡ Some c → (frames ≡ c.kept.frames) × (words ≡ c.kept.words)
+  newest_keeps cs frames words many wide c last = (many ∙ ap frames_of last, wide ∙ ap words_of last)
 
 module _ {S W M : Type 0} (atom_word : ℕ → W) where
   -- the frames and words that are kept stand

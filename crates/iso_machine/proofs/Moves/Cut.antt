@@ -29,7 +29,7 @@ use Rattle.iso_search.proofs.MovedLemmas.{moved_on}
 use Rattle.iso_machine.specs.Lists.{IsList, cost_at, extent_of}
 use Rattle.iso_machine.specs.Engines.{Engine, framed}
 use Rattle.iso_machine.specs.Instructions.{IsInstructionThere, CutsAs, at_address}
-use Rattle.iso_machine.proofs.InstructionMoves.{at_instruction, code_ahead, CutsThere, cut_run}
+use Rattle.iso_machine.proofs.Moves.Instruction.{at_instruction, code_ahead, CutsThere, cut_run}
 
 module _ {S W M : Type 0} (g : Ghosts S W M) (atom_word : ℕ → W) (e : Engine S W M) (r : Rest)
     (doing : e.now ≡ now.Running (next.Code r)) (mark : Mark)

@@ -72,10 +72,10 @@ use Rattle.iso_machine.specs.Arithmetic.{HasComputed}
 use Rattle.iso_machine.specs.Came.{CameTo}
 use Rattle.iso_machine.specs.Lists.{IsList, KeepsFrames, as_much, cost_at, extent_of, list_more, list_words, stack_of}
 use Rattle.iso_machine.specs.Engines.{Engine, framed}
-use Rattle.iso_machine.proofs.FrameLemmas.{adds_keeps, adds_same}
+use Rattle.iso_machine.proofs.FrameLemmas.{adds_keeps, adds_same, stacked_same}
 use Rattle.iso_machine.specs.Wholes.{whole_chain, whole_list}
-use Rattle.iso_machine.proofs.InstructionMoves.{code_ahead}
-use Rattle.iso_machine.proofs.WentMoves.{came_moved, came_refused}
+use Rattle.iso_machine.proofs.Moves.Instruction.{code_ahead}
+use Rattle.iso_machine.proofs.Moves.Went.{came_moved, came_refused}
 
 -- ---- the list behind the goal
 
@@ -230,7 +230,7 @@ module _ {S W M : Type 0} (g : Ghosts S W M) (atom_word : ℕ → W) where
 
       lists_keep : KeepsFrames atom_word (λ j. Unit {0}) e.lists mid.lists
       lists_keep =
-          adds_keeps atom_word e.lists mid.lists (adds_same nodes_same) (adds_same frames_same) (adds_same words_same)
+          adds_keeps atom_word e.lists mid.lists (adds_same nodes_same) (adds_same frames_same) (stacked_same words_same)
 
       texts_keep : KeepsTexts (g.names e.store) (g.names mid.store)
       texts_keep = same_texts c.retains.names

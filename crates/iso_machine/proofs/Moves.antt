@@ -1,0 +1,13 @@
+pub mod Arithmetic
+pub mod Cut
+pub mod Entered
+pub mod Framed
+pub mod Given
+pub mod Go
+pub mod Goal
+pub mod Instruction
+pub mod Last
+pub mod Level
+pub mod Split
+pub mod Try
+pub mod Went
