@@ -64,6 +64,10 @@ pub arguments-last : (i n : ℕ) (m t : Tree) → i < n → arity m ≡ n → t 
 arguments-last i n m t below many is last =
     arguments-more i n m t below many is ∙ ap (λ us. t ∷ us) (listed-end (i + 1) (arguments m) (omega arith))
 
+-- none is left
+pub arguments-end : (n : ℕ) (m : Tree) → arity m ≡ n → arguments_from n m ≡ []
+arguments-end n m many = listed-end n (arguments m) many
+
 -- all arguments
 module _ (f : List ℕ) (n : ℕ) (m ts : Tree) (is : m ≡ Apply f ts) (many : count ts ≡ n) where
   pub arguments-whole : is_term m ≡ true → Apply f (row (arguments_from 0 m)) ≡ m

@@ -1,12 +1,10 @@
 -- Bindings that come one after another.
-use Rattle.std.proofs.Common.{◌≡◌, Bool, true, false, refl, ap, sym, ◌∙◌, IfOk, Result, Ok, Err, arith}
-use Rattle.iso_model.specs.Terms.Trees.{Tree, Variable}
+use Rattle.std.proofs.Common.{◌≡◌, refl, ap, sym, ◌∙◌, arith}
+use Rattle.iso_model.specs.Terms.Trees.{Variable}
 use Rattle.iso_model.specs.Terms.Substitutions.{Subst, apply, compose}
 use Rattle.iso_model.specs.Terms.Unification.Applied.{apply_apply, apply_none}
-use Rattle.iso_model.specs.Terms.Unification.Composed.{unifier_sym, never_sym}
 use Rattle.iso_model.proofs.OnTerms.UnifierLemmas.{compose_compose}
-use Rattle.iso_store_core.specs.declared.shapes.StoreFault.{StoreFault}
-use Rattle.iso_store_core.specs.Presents.{Present, Holds, meaning, Grows, Binds, IsUnification}
+use Rattle.iso_store_core.specs.Presents.{Present, Holds, meaning, Grows, Binds}
 
 pub binds-none : {W : Type 0} (p : Present W) → Binds p p Variable
 binds-none p = record {
@@ -42,11 +40,3 @@ grows-then first second = record {
   limit = second.limit ∙ first.limit;
   within = λ h. second.within (first.within h);
 }
-
-pub turned : {W : Type 0} (p q : Present W) (A B : Tree) (answer : Bool) → IsUnification p q A B answer → IsUnification p q B A answer
-turned p q A B true h = (h.0, unifier_sym h.1, h.2)
-turned p q A B false h = never_sym A B h
-
-pub turned-result : {W : Type 0} (p q : Present W) (A B : Tree) (result : Result Bool StoreFault) → IfOk result (IsUnification p q A B) → IfOk result (IsUnification p q B A)
-turned-result p q A B (Ok answer) h = turned p q A B answer h
-turned-result p q A B (Err e) h = h

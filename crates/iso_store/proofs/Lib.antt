@@ -48,7 +48,8 @@ pub mod HeapBuilding
 pub mod HeapBuilt
 pub mod HeapRenewed
 pub mod HeapCopied
-mod FlatLemmas
+mod FewLemmas
+pub mod PairLemmas
 pub mod StartLemmas
 pub mod ReadingLemmas
 pub mod HeadCells

@@ -1,5 +1,5 @@
 -- How what is left of two terms compares.
-use Rattle.std.proofs.Common.{◌≡◌, ℕ, ◌+◌, ◌<◌, List, [], ◌∷◌, ◌++◌, length, refl, ap, ap₂, sym, ◌∙◌, arith, Less, Equal, Greater, Result, Ok, Err, IfOk, not, ◌==◌, false}
+use Rattle.std.proofs.Common.{◌≡◌, ℕ, ◌+◌, ◌<◌, List, [], ◌∷◌, ◌++◌, length, refl, ap, ap₂, sym, ◌∙◌, arith, Less, Equal, Greater, not, ◌==◌, true, false, inl, inr}
 use Rattle.std.proofs.lemmas.Cmp.{tied_itself}
 use Rattle.std.specs.Cmp.{nat_cmp_total}
 use Rattle.std.specs.Cmp.Lexicographic.{slice_cmp, nat_list_cmp_total}
@@ -16,6 +16,7 @@ use Rattle.iso_store_core.specs.Arguments.{argument}
 use Rattle.iso_store.specs.Unifying.{IsCompound, ones, others}
 use Rattle.iso_store.specs.declared.order.Comparison.TheVariants.{Arguments}
 use Rattle.iso_store.specs.Comparing.{IsComparison, order_left}
+use Rattle.iso_store.proofs.PairLemmas.{Behind, some-behind}
 use Rattle.iso_store.proofs.UnifyLemmas.{Opened, terms-now, terms-append, ones-opened, others-opened, ones-before, others-before, ones-last, others-last, ones-more, others-more, count-row}
 
 -- names and numbers that stand alike are one
@@ -84,16 +85,34 @@ module _ {W : Type 0} (p : Present W) where
   order-joined xs w v =
       sym (ap₂ (λ us vs. term_cmp (row us) (row vs)) (terms-append p (λ one other. one) [] xs (Join w v ∷ [])) (terms-append p (λ one other. other) [] xs (Join w v ∷ [])))
 
--- what holds of an answer
-pub ok_by : {A E : Type 0} {P Q : A → Type 0} (result : Result A E) → IfOk result P → ((a : A) → P a → Q a) → IfOk result Q
-ok_by (Ok a) h f = f a h
-ok_by (Err e) h f = h
-
 -- terms that no step told apart
 pub alike : (o : Ordering) → not (ordering_index o == 1) ≡ false → o ≡ Equal
 alike Less e = absurd (false≢true (sym e))
 alike Equal e = refl
 alike Greater e = absurd (false≢true (sym e))
+
+-- where they are told apart, what is behind them counts for nothing
+decides : (o x y : Ordering) → not (ordering_index o == 1) ≡ true → ordering_then o x ≡ ordering_then o y
+decides Less x y e = refl
+decides Equal x y e = absurd (false≢true e)
+decides Greater x y e = refl
+
+-- ---- the arguments of two compounds pair by pair
+module _ {W : Type 0} (p : Present W) (xs : List (Task W)) (w v : W) (i n : ℕ) (below : i < n) (left : IsCompound n (meaning p w)) (right : IsCompound n (meaning p v)) (a b : Tree)
+    (one : a ≡ argument i (meaning p w)) (other : b ≡ argument i (meaning p v)) where
+  pub order-behind : (ys : List (Task W)) → Behind w v (i + 1) n xs ys → order_left p (a ∷ []) (b ∷ []) ys ≡ order_left p [] [] (xs ++ Arguments w v i n ∷ [])
+  order-behind ys (inl last) = ap (order_left p (a ∷ []) (b ∷ [])) last.1 ∙ order-last p xs w v i n below left right a b one other last.0
+  order-behind ys (inr more) = order-more p xs w v i n below left right a b one other ys more.1
+
+  -- the pair is one term
+  pub order-equal : (ys : List (Task W)) → Behind w v (i + 1) n xs ys → a ≡ b → order_left p [] [] ys ≡ order_left p [] [] (xs ++ Arguments w v i n ∷ [])
+  order-equal ys behind same = order-same p a b ys same ∙ order-behind ys behind
+
+  -- the pair decides
+  pub order-decided : (o x : Ordering) → not (ordering_index o == 1) ≡ true → o ≡ term_cmp a b → ordering_then o x ≡ order_left p [] [] (xs ++ Arguments w v i n ∷ [])
+  order-decided o x e is =
+      let rest = some-behind w v i n xs below in
+      decides o x (order_left p [] [] rest.0) e ∙ ap (λ k. ordering_then k (order_left p [] [] rest.0)) is ∙ order-first p a b rest.0 ∙ order-behind rest.0 rest.1
 
 -- two compounds of one name, with one number of arguments
 pub arguments-decide : (m n : ℕ) (f g : List ℕ) (ts us : Tree) → nat_cmp m n ≡ Equal → slice_cmp nat_cmp f g ≡ Equal → count ts ≡ m → count us ≡ n → IsComparison (Arguments m) (Apply f ts) (Apply g us)

@@ -1,7 +1,7 @@
 -- What is left to do of making two terms equal, and what is done by a step.
-use Rattle.std.proofs.Common.{◌≡◌, ◌==◌, ℕ, zero, suc, ◌+◌, ◌<◌, List, [], ◌∷◌, ◌++◌, length, map, drop, true, refl, ap, ap₂, sym, ◌∙◌, subst, subst₂, arith, append_assoc, append-nil, length-append, Some, Bool, false, MatchBool, IsTrue, IfOk, Result, Ok, Err}
+use Rattle.std.proofs.Common.{◌≡◌, ◌==◌, ℕ, zero, suc, ◌+◌, ◌<◌, List, [], ◌∷◌, ◌++◌, length, map, drop, true, refl, ap, ap₂, sym, ◌∙◌, subst, subst₂, arith, append_assoc, append-nil, length-append, Some, Bool}
 use Rattle.std.specs.List.{All}
-use Rattle.std.proofs.lemmas.Bool.{false≢true, eqb-true}
+use Rattle.std.proofs.lemmas.Bool.{eqb-true}
 use Rattle.std.proofs.lemmas.List.{nil_from_length, length-map, drop-map, map-append}
 use Rattle.std.proofs.lemmas.List.Elements.{All-head, All-tail, All-push, All-pop}
 use Rattle.iso_model.specs.Terms.Trees.{Tree, Variable, Apply, row, count}
@@ -12,10 +12,9 @@ use Rattle.iso_model.specs.Terms.Unification.Applied.{apply_apply, apply_none}
 use Rattle.iso_model.specs.Terms.Unification.Composed.{never_first, unifier_same}
 use Rattle.iso_model.proofs.OnTerms.CostOfRows.{apply-row}
 use Rattle.iso_store.specs.declared.notes.Notes.{Notes}
-use Rattle.iso_store_core.specs.declared.shapes.StoreFault.{StoreFault}
 use Rattle.iso_store.specs.declared.unify.Task.{Task}
 use Rattle.iso_store.specs.declared.unify.Task.TheVariants.{Arguments, Join}
-use Rattle.iso_store_core.specs.Presents.{Present, Holds, meaning, Binds, IsUnification}
+use Rattle.iso_store_core.specs.Presents.{Present, Holds, meaning, Binds}
 use Rattle.iso_store_core.specs.Arguments.{arity, argument, members_from, listed, arguments_from}
 use Rattle.iso_store.specs.Meetings.{IsMeeting}
 use Rattle.iso_store.specs.declared.meetings.Meeting.TheVariants.{Arguments}
@@ -400,22 +399,3 @@ module _ {W : Type 0} (p : Present W) (at : ℕ → Tree) (old new : Notes W) (a
 
   pub steps-same : Steps p p (a ∷ []) (b ∷ []) xs xs
   steps-same = steps-solved (binds-none p) a b (subst (λ t. Unifier a t Variable) equal (unifier_same a)) xs stands.pairs
-
--- ---- results
-pub match_by : {E P Q R S : Type 0} (result : Result Bool E) → IfOk result (λ answer. MatchBool answer P Q) → (P → R) → (Q → S) → IfOk result (λ answer. MatchBool answer R S)
-match_by (Ok true) h f k = f h
-match_by (Ok false) h f k = k h
-match_by (Err e) h f k = h
-
--- a variable was bound, or nothing makes the two terms equal
-module _ {W : Type 0} (p q : Present W) (a b : Tree) (xs : List (Task W)) where
-  pub stands-unified : (at now : ℕ → Tree) (old new : Notes W) → Stands p at old (a ∷ []) (b ∷ []) xs → (result : Result Bool StoreFault) → IfOk result (IsUnification p q a b) → IfOk result (λ answer. IsTrue answer → AreJoined q now new)
-      → IfOk result (λ answer. IsTrue answer → Stands q now new [] [] xs)
-  stands-unified at now old new stands (Ok true) unified joined = λ t. stands-solved unified.2 at now old new a b xs unified.1.equal stands (joined t)
-  stands-unified at now old new stands (Ok false) unified joined = λ t. absurd (false≢true t)
-  stands-unified at now old new stands (Err e) unified joined = joined
-
-  pub steps-unified : All (IsPair p) xs → (result : Result Bool StoreFault) → IfOk result (IsUnification p q a b) → IfOk result (λ answer. MatchBool answer (Steps p q (a ∷ []) (b ∷ []) xs xs) (NeverEqual a b))
-  steps-unified pairs (Ok true) unified = steps-solved unified.2 a b unified.1 xs pairs
-  steps-unified pairs (Ok false) unified = unified
-  steps-unified pairs (Err e) unified = unified

@@ -7,6 +7,7 @@ pub mod Searching
 pub mod Listing
 pub mod Plans
 pub mod Planning
+pub mod Met
 pub mod Unifying
 pub mod Comparing
 pub mod NodeTerms

@@ -4,6 +4,7 @@
 
 mod copies;
 mod duplicates;
+mod few;
 mod flat_cells;
 mod heads;
 mod heap;

@@ -1,14 +1,14 @@
-//! Whether a variable occurs in a term; each compound is searched once.
-ghost use Rattle.std.specs.Prelude.{◌≡◌, ◌<◌, ◌+◌, ◌*◌, ◌∷◌, [], ◌++◌, IfOk, IfSome, OnOk, sum_by, true, false};
+//! Whether a variable occurs in a term; each compound of a large one is searched once.
+ghost use Rattle.std.specs.Prelude.{◌≡◌, ◌<◌, ◌+◌, ◌*◌, ◌∷◌, [], ◌++◌, IfOk, OnOk, sum_by, true, false};
 ghost use Rattle.std.specs.List.{All};
 ghost use Rattle.iso_model.specs.Terms.Trees.{row};
 ghost use Rattle.iso_model.specs.Terms.Sizes.{size};
 ghost use Rattle.iso_model.specs.Terms.Variables.{occurs};
 ghost use Rattle.iso_store_core.specs.Presents.{Holds, meaning};
 ghost use Rattle.iso_store_core.specs.Arguments.{arguments_from};
-ghost use Rattle.iso_store.specs.Unifying.{IsCompound};
 ghost use Rattle.iso_store.specs.Searching.{IsThere, IsClear, AreSound, found, load};
 
+use super::few::in_few;
 use super::notes::Notes;
 use super::primitives::Primitives;
 use iso_model::NoMemory;
@@ -118,53 +118,9 @@ fn do_task<S: Primitives>(
     }
 }
 
-/// Whether the variable of this number occurs in what the word stands for; none where that is a compound.
-fn in_leaf<S: Primitives>(store: &S, number: u64, word: S::Word) -> Option<bool>
-    requires { Holds (S.present store.now) word }
-    ensures { IfSome result (λ b. b ≡ occurs number (meaning (S.present store.now) word)) }
-{
-    match store.shape(word) {
-        Shape::Var(other) => Some(other == number),
-        Shape::Int(_) | Shape::Atom(_) => Some(false),
-        Shape::Compound(_, _) => None,
-    }
-}
-
-/// Whether the variable of this number occurs in the compound of so many arguments that the word stands for; none
-/// where it is to be searched, as an argument is a compound.
-fn in_flat<S: Primitives>(store: &S, number: u64, word: S::Word, count: usize) -> Option<bool>
-    requires word { Holds (S.present store.now) word }
-    requires compound { IsCompound count (meaning (S.present store.now) word) }
-    ensures { IfSome result (λ b. b ≡ occurs number (meaning (S.present store.now) word)) }
-{
-    let mut index = 0;
-    while index < count {
-        let Some(found) = in_leaf(store, number, store.arg(word, index)) else {
-            return None;
-        };
-        if found {
-            return Some(true);
-        }
-        index += 1;
-    }
-    Some(false)
-}
-
-/// Whether the variable of this number occurs in what the word stands for, where that shows without a list of what is
-/// left to do.
-fn in_shallow<S: Primitives>(store: &S, number: u64, word: S::Word) -> Option<bool>
-    requires { Holds (S.present store.now) word }
-    ensures { IfSome result (λ b. b ≡ occurs number (meaning (S.present store.now) word)) }
-{
-    match store.shape(word) {
-        Shape::Var(other) => Some(other == number),
-        Shape::Int(_) | Shape::Atom(_) => Some(false),
-        Shape::Compound(_, count) => in_flat(store, number, word, count),
-    }
-}
-
 /// Whether the variable of this number occurs in what the word stands for, with this list for what is left to do. The
 /// error is that memory was refused.
+#[inline(never)]
 pub(crate) fn occurs<S: Primitives>(
     store: &S,
     number: u64,
@@ -175,7 +131,7 @@ pub(crate) fn occurs<S: Primitives>(
     requires { Holds (S.present store.now) word }
     ensures { IfOk result (λ b. b ≡ occurs number (meaning (S.present store.now) word)) }
 {
-    if let Some(found) = in_shallow(store, number, word) {
+    if let Some(found) = in_few(store, number, word, tasks)? {
         return Ok(found);
     }
     searched.begin();

@@ -50,6 +50,9 @@ fn compare_names<S: Primitives>(store: &S, one: Atom, other: Atom) -> Ordering
     requires other { other < length (S.names store.now) }
     ensures { result ≡ slice_cmp nat_cmp (text_at (S.names store.now) one) (text_at (S.names store.now) other) }
 {
+    if one == other {
+        return Ordering::Equal;
+    }
     store.text(one).cmp(store.text(other))
 }
 
@@ -113,34 +116,9 @@ fn compare_heads<S: Primitives>(store: &S, one: S::Word, other: S::Word) -> Comp
     Comparison::Decided(kind_of(first).cmp(&kind_of(second)))
 }
 
-/// Compares what the words stand for, where no arguments have to be for it. Compounds of one name are left to be
-/// compared: as far as it was looked, they are alike.
-fn compare_next<S: Primitives>(
-    store: &S,
-    one: S::Word,
-    other: S::Word,
-    joined: &mut Notes<S::Word>,
-    tasks: &mut Vec<Task<S::Word>>,
-) -> Result<Ordering, NoMemory>
-    requires one { Holds (S.present store.now) one }
-    requires other { Holds (S.present store.now) other }
-    requires stands { Stands (S.present store.now) (S.at_place store.now) joined.old (meaning (S.present store.now) one ∷ []) (meaning (S.present store.now) other ∷ []) tasks.old.items }
-    ensures stands { IfOk result (λ o. o ≡ Ordering.Equal → Stands (S.present store.now) (S.at_place store.now) joined.new [] [] tasks.new.items) }
-    ensures steps { IfOk result (λ o. o ≡ Ordering.Equal → Steps (S.present store.now) (S.present store.now)
-        (meaning (S.present store.now) one ∷ []) (meaning (S.present store.now) other ∷ []) tasks.old.items tasks.new.items) }
-    ensures order { IfOk result (λ o. ordering_then o (order_left (S.present store.now) [] [] tasks.new.items)
-        ≡ order_left (S.present store.now) (meaning (S.present store.now) one ∷ []) (meaning (S.present store.now) other ∷ []) tasks.old.items) }
-{
-    match compare_heads(store, one, other) {
-        Comparison::Decided(order) => Ok(order),
-        Comparison::Arguments(count) => {
-            leave_arguments(store, one, other, count, joined, tasks)?;
-            Ok(Ordering::Equal)
-        }
-    }
-}
-
-/// Compares the arguments at this place, and leaves those behind them; each compound has so many.
+/// Compares the arguments from this place on, up to the first that are both compounds of one name with as many
+/// arguments; these are left to be compared, and the arguments behind them. Each compound has so many. As far as it
+/// was looked, they are alike where it answers that they are equal.
 fn compare_arguments<S: Primitives>(
     store: &S,
     one: S::Word,
@@ -157,13 +135,24 @@ fn compare_arguments<S: Primitives>(
     ensures order { IfOk result (λ o. ordering_then o (order_left (S.present store.now) [] [] tasks.new.items)
         ≡ order_left (S.present store.now) [] [] (tasks.old.items ++ Task.Arguments one other index count ∷ [])) }
 {
-    let first = store.arg(one, index);
-    let second = store.arg(other, index);
-    if index + 1 == count {
-        return compare_next(store, first, second, joined, tasks);
+    let mut index = index;
+    'comparing: loop {
+        let first = store.arg(one, index);
+        let second = store.arg(other, index);
+        index += 1;
+        match compare_heads(store, first, second) {
+            Comparison::Decided(order) if order != Ordering::Equal => return Ok(order),
+            Comparison::Decided(_) if index == count => return Ok(Ordering::Equal),
+            Comparison::Decided(_) => {}
+            Comparison::Arguments(many) => {
+                if index < count {
+                    tasks.push(Task::Arguments(one, other, index, count))?;
+                }
+                leave_arguments(store, first, second, many, joined, tasks)?;
+                return Ok(Ordering::Equal);
+            }
+        }
     }
-    tasks.push(Task::Arguments(one, other, index + 1, count))?;
-    compare_next(store, first, second, joined, tasks)
 }
 
 /// Does what a task says. As far as it goes, the terms are alike where it answers that they are equal.
@@ -191,24 +180,26 @@ fn do_task<S: Primitives>(
     }
 }
 
-/// How what the words stand for compares, with these notes, and this list for what is left to do.
-fn compare_with<S: Primitives>(
+/// How two compounds of one name with so many arguments compare, with these notes, and this list for what is left to
+/// do.
+fn compare_alike<S: Primitives>(
     store: &S,
     one: S::Word,
     other: S::Word,
+    count: usize,
     joined: &mut Notes<S::Word>,
     tasks: &mut Vec<Task<S::Word>>,
 ) -> Result<Ordering, NoMemory>
     requires one { Holds (S.present store.now) one }
     requires other { Holds (S.present store.now) other }
+    requires comparison { IsComparison (Comparison.Arguments count) (meaning (S.present store.now) one) (meaning (S.present store.now) other) }
+    requires one_term { is_term (meaning (S.present store.now) one) ≡ true }
+    requires other_term { is_term (meaning (S.present store.now) other) ≡ true }
     ensures { IfOk result (λ o. o ≡ term_cmp (meaning (S.present store.now) one) (meaning (S.present store.now) other)) }
 {
     joined.begin();
     tasks.clear();
-    let order = compare_next(store, one, other, joined, tasks)?;
-    if order != Ordering::Equal {
-        return Ok(order);
-    }
+    leave_arguments(store, one, other, count, joined, tasks)?;
     while let Some(task) = tasks.pop() {
         let order = do_task(store, task, joined, tasks)?;
         if order != Ordering::Equal {
@@ -218,8 +209,8 @@ fn compare_with<S: Primitives>(
     Ok(Ordering::Equal)
 }
 
-/// How what the words stand for compares. The error is that memory was refused; where neither is a compound, none is
-/// asked for.
+/// How what the words stand for compares. The error is that memory was refused; unless both are compounds of one name
+/// with as many arguments, none is asked for.
 pub(crate) fn compare<S: Primitives>(
     store: &mut S,
     one: S::Word,
@@ -232,12 +223,17 @@ pub(crate) fn compare<S: Primitives>(
     ensures names { S.names store.new ≡ S.names store.old }
     ensures marks { KeepsMarks (S.stands store.old) (S.stands store.new) }
 {
+    let count = match compare_heads(store, one, other) {
+        Comparison::Decided(order) => return Ok(order),
+        Comparison::Arguments(count) => count,
+    };
     let mut scratch = take_scratch(store)?;
     let inside = &mut *scratch;
-    let answer = compare_with(
+    let answer = compare_alike(
         store,
         one,
         other,
+        count,
         &mut inside.notes.joined,
         &mut inside.tasks,
     );

@@ -1,7 +1,7 @@
 //! Unification (ISO/IEC 13211-1:1995, 7.3.4), with the check that no variable occurs in its own value (own). Terms
 //! are gone through by a list of tasks, and two words that came to stand for one term are joined: so no pair of
 //! subterms that are shared is gone through again.
-ghost use Rattle.std.specs.Prelude.{◌≡◌, ℕ, ◌+◌, ◌<◌, ◌≤◌, ◌∷◌, [], ◌++◌, IfOk, OnOk, MatchBool, IsTrue, true, false};
+ghost use Rattle.std.specs.Prelude.{◌≡◌, ◌≢◌, ℕ, ◌+◌, ◌<◌, ◌≤◌, ◌∷◌, [], ◌++◌, IfOk, OnOk, MatchBool, IsTrue, if◌then◌else◌, true, false};
 ghost use Rattle.std.specs.List.{All};
 ghost use Rattle.iso_model.specs.Terms.Trees.{Variable, row};
 ghost use Rattle.iso_model.specs.Terms.Sorts.{is_term};
@@ -9,6 +9,7 @@ ghost use Rattle.iso_model.specs.Terms.Variables.{occurs};
 ghost use Rattle.iso_model.specs.Terms.Unifiers.{NeverEqual};
 ghost use Rattle.iso_store_core.specs.Presents.{Holds, meaning, IsUnification, Grows, KeepsMarks};
 ghost use Rattle.iso_store.specs.Meetings.{IsYounger, IsMeeting};
+ghost use Rattle.iso_store.specs.Met.{IsMet};
 ghost use Rattle.iso_store.specs.Unifying.{IsPair, AreJoined, Stands, Steps, ones, others};
 ghost use Rattle.iso_store.specs.Comparing.{order_left};
 
@@ -31,8 +32,20 @@ pub(crate) enum Task<W: Copy> {
     Join(W, W),
 }
 
+/// What came of two terms that were to be made equal.
+#[derive(Clone, Copy)]
+enum Met {
+    /// They are equal.
+    Equal,
+    /// Nothing makes them equal.
+    Never,
+    /// Compounds of one name, with so many arguments, which are to be made equal.
+    Compounds(usize),
+}
+
 /// Whether the unbound variable of this number occurs in what the other word stands for; it is searched only where it
 /// is not clear without.
+#[inline(always)]
 fn occurs_for<S: Primitives>(
     store: &S,
     number: u64,
@@ -59,6 +72,7 @@ fn occurs_for<S: Primitives>(
 }
 
 /// Binds the variable of this number to what the other word stands for, unless it occurs there.
+#[inline(always)]
 fn bind_checked<S: Primitives>(
     store: &mut S,
     number: u64,
@@ -83,6 +97,45 @@ fn bind_checked<S: Primitives>(
     }
     store.bind(number, variable, word)?;
     Ok(true)
+}
+
+/// What came of two terms where a variable was to be bound to the other.
+#[inline(always)]
+fn met_by(bound: bool) -> Met
+    ensures { result ≡ (if bound then Met.Equal else Met.Never) }
+{
+    if bound { Met::Equal } else { Met::Never }
+}
+
+/// Makes what the words stand for equal, where no arguments have to be for it.
+#[inline(always)]
+fn meet_pair<S: Primitives>(
+    store: &mut S,
+    one: S::Word,
+    other: S::Word,
+    notes: &mut UnifyNotes<S::Word>,
+) -> Result<Met, StoreFault>
+    requires one { Holds (S.present store.old) one }
+    requires other { Holds (S.present store.old) other }
+    ensures met { IfOk result (IsMet (S.present store.old) (S.present store.new) (meaning (S.present store.old) one) (meaning (S.present store.old) other)) }
+    ensures joined { AreJoined (S.present store.old) (S.at_place store.old) notes.old.joined
+        → IfOk result (λ met. met ≢ Met.Never → AreJoined (S.present store.new) (S.at_place store.new) notes.new.joined) }
+    ensures cells { Grows (S.present store.old) (S.present store.new) 0 0 }
+    ensures full { result ≡ Err StoreFault.Full → S.full store.new }
+    ensures names { S.names store.new ≡ S.names store.old }
+    ensures marks { KeepsMarks (S.stands store.old) (S.stands store.new) }
+{
+    match meet(store.shape(one), store.shape(other)) {
+        Meeting::Same => Ok(Met::Equal),
+        Meeting::Clash => Ok(Met::Never),
+        Meeting::FirstVariable(number) => {
+            Ok(met_by(bind_checked(store, number, one, other, notes)?))
+        }
+        Meeting::SecondVariable(number) => {
+            Ok(met_by(bind_checked(store, number, other, one, notes)?))
+        }
+        Meeting::Arguments(count) => Ok(Met::Compounds(count)),
+    }
 }
 
 /// Leaves two compounds of so many arguments to be made equal, unless they are joined; they will be, where anything
@@ -141,19 +194,18 @@ fn unify_next<S: Primitives>(
     ensures names { S.names store.new ≡ S.names store.old }
     ensures marks { KeepsMarks (S.stands store.old) (S.stands store.new) }
 {
-    match meet(store.shape(one), store.shape(other)) {
-        Meeting::Same => Ok(true),
-        Meeting::Clash => Ok(false),
-        Meeting::FirstVariable(number) => bind_checked(store, number, one, other, notes),
-        Meeting::SecondVariable(number) => bind_checked(store, number, other, one, notes),
-        Meeting::Arguments(count) => {
+    match meet_pair(store, one, other, notes)? {
+        Met::Equal => Ok(true),
+        Met::Never => Ok(false),
+        Met::Compounds(count) => {
             leave_arguments(store, one, other, count, &mut notes.joined, tasks)?;
             Ok(true)
         }
     }
 }
 
-/// Makes the arguments at this place equal, and leaves those behind them; each compound has so many.
+/// Makes the arguments from this place on equal, up to the first that are both compounds; these are left to be made
+/// equal, and the arguments behind them. Each compound has so many. False where nothing makes them equal.
 fn unify_arguments<S: Primitives>(
     store: &mut S,
     one: S::Word,
@@ -175,13 +227,24 @@ fn unify_arguments<S: Primitives>(
     ensures names { S.names store.new ≡ S.names store.old }
     ensures marks { KeepsMarks (S.stands store.old) (S.stands store.new) }
 {
-    let first = store.arg(one, index);
-    let second = store.arg(other, index);
-    if index + 1 == count {
-        return unify_next(store, first, second, notes, tasks);
+    let mut index = index;
+    'meeting: loop {
+        let first = store.arg(one, index);
+        let second = store.arg(other, index);
+        index += 1;
+        match meet_pair(store, first, second, notes)? {
+            Met::Equal if index == count => return Ok(true),
+            Met::Equal => {}
+            Met::Never => return Ok(false),
+            Met::Compounds(many) => {
+                if index < count {
+                    tasks.push(Task::Arguments(one, other, index, count))?;
+                }
+                leave_arguments(store, first, second, many, &mut notes.joined, tasks)?;
+                return Ok(true);
+            }
+        }
     }
-    tasks.push(Task::Arguments(one, other, index + 1, count))?;
-    unify_next(store, first, second, notes, tasks)
 }
 
 /// Does what a task says. False where nothing makes its terms equal.
