@@ -1,10 +1,9 @@
 -- Where the head of a clause was met, each of its variables has a word, whatever words came to the store before.
-use Rattle.std.proofs.Common.{◌≡◌, ◌<◌, ◌≤◌, ◌+◌, ℕ, zero, suc, List, [], ◌∷◌, ◌++◌, length, map, take, drop, Bool, true, Option, Some, None, is_some, refl, sym, ap, ap₂, ◌∙◌, subst, arith, length-append}
+use Rattle.std.proofs.Common.{◌≡◌, ◌<◌, ◌+◌, ℕ, List, [], ◌∷◌, ◌++◌, length, map, drop, Bool, true, Option, Some, None, is_some, refl, sym, ap, ap₂, ◌∙◌, subst, arith}
 use Rattle.std.specs.List.{All}
 use Rattle.std.proofs.lemmas.Bool.{false≢true}
 use Rattle.std.proofs.lemmas.Option.{slice_get_within}
 use Rattle.std.proofs.lemmas.List.Elements.{All-head, All-tail, All-weaker}
-use Rattle.std.proofs.lemmas.List.{take_all, take-append-le, length-drop}
 use Rattle.iso_model.specs.Terms.Trees.{Tree, Apply, row, count}
 use Rattle.iso_model.specs.Terms.Substitutions.{Subst, apply}
 use Rattle.iso_model.specs.Terms.Copies.{renamed}
@@ -103,47 +102,19 @@ met_here old code c fresh many k fresh_is many_is x below =
     ap (λ (os : List Operand). met_behind none_met (head_operands code.head ++ os) x) fresh_is
     ∙ kept_whole old code c k x (omega (arith, below, variables))
 
--- words that are written behind others
-pub take_both : {X : Type 0} (n : ℕ) (xs ys zs : List X) → n ≡ length xs + length ys
-    → take n ((xs ++ ys) ++ zs) ≡ xs ++ ys
-take_both n xs ys zs is =
-    let long = length-append xs ys in
-    take-append-le n (xs ++ ys) zs (omega (arith, is, long)) ∙ take_all n (xs ++ ys) (omega (arith, is, long))
-
+-- words behind others
 pub drop_front : {X : Type 0} (xs ys : List X) → drop (length xs) (xs ++ ys) ≡ ys
 drop_front [] ys = refl
 drop_front (x ∷ xs) ys = drop_front xs ys
 
--- words that were written behind those that stood
-pub written : {X : Type 0} (n : ℕ) (old below words others : List X) → below ≡ old → n ≡ length old + length words
-    → take n ((below ++ words) ++ others) ≡ old ++ words
-written {X = X} n old below words others is many =
-    ap (λ (vs : List X). take n ((vs ++ words) ++ others)) is ∙ take_both n old words others many
-
--- the words that stood, in front of those that came
-pub front_same : {X : Type 0} (old all below more : List X) (base n : ℕ) → base ≡ length old → all ≡ take n old ++ more
-    → base ≤ n → below ≡ take base all → below ≡ old
-front_same {X = X} old all below more base n base_is all_is less is =
-    let whole : take n old ≡ old = take_all n old (omega (arith, base_is, less)) in
-    is ∙ (ap (λ (xs : List X). take base xs) (all_is ∙ ap (λ (xs : List X). xs ++ more) whole)
-    ∙ (take-append-le base old more (omega (arith, base_is)) ∙ take_all base old (omega (arith, base_is))))
-
-pub part_same : {X : Type 0} (start count n : ℕ) (old below : List X) → below ≡ old → n ≡ count
-    → take n (drop start below) ≡ take count (drop start old)
-part_same {X = X} start count n old below is many =
-    ap₂ (λ (k : ℕ) (xs : List X). take k (drop start xs)) many is
-
-part_length : {X : Type 0} (start count : ℕ) (xs : List X) → start + count ≤ length xs
-    → length (take count (drop start xs)) ≡ count
-part_length zero zero xs less = refl
-part_length zero (suc n) [] less = absurd (omega (arith, less))
-part_length zero (suc n) (x ∷ xs) less = ap suc (part_length zero n xs (omega (arith, less)))
-part_length (suc m) n [] less = absurd (omega (arith, less))
-part_length (suc m) n (x ∷ xs) less = part_length m n xs (omega (arith, less))
-
-pub part_many : {X : Type 0} (start count : ℕ) (xs part : List X) → start + count ≤ length xs
-    → part ≡ take count (drop start xs) → count ≡ length part
-part_many start count xs part less is = sym (ap length is ∙ part_length start count xs less)
+-- the words that came behind others are those of the clause
+pub met_written : {W : Type 0} (p q : Present W) (f : List ℕ) (arguments : List W) (ts : Tree) (met came : Bool)
+    (old own all : List W) → all ≡ old ++ own → came ≡ met → HasMet p q f arguments ts own met
+    → HasMet p q f arguments ts (drop (length old) all) came
+met_written {W = W} p q f arguments ts met came old own all is same there =
+    subst (λ (b : Bool). HasMet p q f arguments ts (drop (length old) all) b) (sym same)
+    (subst (λ (ws : List W). HasMet p q f arguments ts ws met)
+    (sym (ap (λ (ws : List W). drop (length old) ws) is ∙ drop_front old own)) there)
 
 -- a word came, and then words came
 pub adds_two : {W : Type 0} {p q r : Present W} {w : W} {t : Tree} → Makes p q w t → KeepsNumbers p q
@@ -180,10 +151,3 @@ pub all_held : {W : Type 0} {p q : Present W} (words others : List W) → Adds p
     → All (Holds p) words → All (Holds q) others
 all_held {p = p} {q = q} words others adds same hold =
     subst (All (Holds q)) (sym same) (All-weaker (Holds p) (Holds q) (λ w h. adds.words.stand w h) words hold)
-
--- how many words came
-pub back_many : {X : Type 0} (all back : List X) (base variables : ℕ) → length all ≡ base + variables
-    → back ≡ drop base all → length back ≡ variables
-back_many all back base variables many is =
-    let long = ap length is ∙ length-drop base all in
-    omega (arith, many, long)

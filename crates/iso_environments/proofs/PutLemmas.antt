@@ -26,11 +26,13 @@ use Rattle.iso_compile.specs.Emitted.{block_of}
 use Rattle.iso_compile.specs.declared.goals.Call as called
 use Rattle.iso_code.specs.declared.operands.Operand.TheVariants as operand
 use Rattle.iso_code.specs.Loaded.{IsInside, IsSound, IsOfCompound, part_at, block_at, all_operands}
+use Rattle.iso_code.specs.declared.operands.Arguments.{Arguments}
 use Rattle.iso_writing.specs.Pushing.{IsHeld}
+use Rattle.iso_writing.specs.Writing.{Adds}
+use Rattle.iso_writing.proofs.KnownLemmas.{for_on}
 use Rattle.iso_machine_core.specs.Goals.{Puts}
 use Rattle.iso_instructions.specs.declared.instructions.Goal as instruction
 use Rattle.iso_instructions.specs.declared.instructions.Code.{Code}
-use Rattle.iso_instructions.specs.declared.instructions.Instruction.{Instruction}
 use Rattle.iso_instructions.specs.declared.instructions.Instruction.TheVariants.{Call, Execute, Proceed, Jump}
 use Rattle.iso_bodies.specs.Instructions.{IsLoadedGoal}
 use Rattle.iso_bodies.proofs.KeptLemmas.{goal_kept}
@@ -66,21 +68,6 @@ call_stops code a g (inr call) = record {
   proceed = λ is. (let same : Some (Execute g) ≡ Some Proceed = sym call ∙ is in absurd (cc));
   jump = λ l is. (let same : Some (Execute g) ≡ Some (Jump l) = sym call ∙ is in absurd (cc));
 }
-
--- it calls one goal
-call_same : (code : List Instruction) (a : ℕ) (g h : instruction.Goal) → IsCalledAt code a g → IsCalledAt code a h
-    → g ≡ h
-call_same code a g h (inl one) (inl other) = (let same : Call g ≡ Call h = some_same (sym one ∙ other) in cc)
-call_same code a g h (inl one) (inr other) =
-    (let same : Call g ≡ Execute h = some_same (sym one ∙ other) in absurd (cc))
-call_same code a g h (inr one) (inl other) =
-    (let same : Execute g ≡ Call h = some_same (sym one ∙ other) in absurd (cc))
-call_same code a g h (inr one) (inr other) = (let same : Execute g ≡ Execute h = some_same (sym one ∙ other) in cc)
-
-goes_called : (code : List Instruction) (r : Rest) (behind : Option Rest) (g : instruction.Goal) (place : Option Rest)
-    → GoesBehind code r behind g place → IsCalledAt code r.address g
-goes_called code r behind g place (inl call) = inl call.0
-goes_called code r behind g place (inr call) = inr call.0
 
 -- the goal is that of the clause whose frame is there
 goal_here : {frames : List Frame} {r : Rest} {f : Frame} {code : Rc Code Global} {level : Option Level}
@@ -286,12 +273,6 @@ module _ {W : Type 0} {atom_word : ℕ → W} {p : Present W} {nodes : List (Nod
     {r : Rest} {f : Frame} {code : Rc Code Global} {level : Option Level} {g : instruction.Goal} {place : Option Rest}
     {part : List W} {all : List Member}
     (h : IsRead atom_word p nodes frames words r f code level g place part all) where
-  -- the goal there is this one
-  pub goal_same : (x : instruction.Goal) → IsGoalThere frames r x → g ≡ x
-  goal_same x there =
-      call_same code.value.body.items r.address g x (goes_called code.value.body.items r f.behind g place h.goes)
-      (goal_here h.at there)
-
   -- less is left behind the goal, where it has so many arguments
   pub goal_behind : (many : ℕ) → many ≡ length g.arguments.operands.items → IsBehind frames r g many place
   goal_behind many same =
@@ -384,3 +365,18 @@ module _ {W : Type 0} {atom_word : ℕ → W} {p : Present W} {nodes : List (Nod
         hold = puts.hold;
         list = chain_words atom_word keeps h.first.list;
       }
+
+-- ---- arguments that are put as words that stand
+
+-- They were put behind a word that came, and are the words that stand now.
+pub puts_here : {W : Type 0} (names others : List (List ℕ)) (code : Arguments) (p q s : Present W)
+    (part words stand : List W) → Adds p q → others ≡ names → stand ≡ words → Puts others code q s part words
+    → Puts names code p s part stand
+puts_here {W = W} names others code p q s part words stand adds same is puts =
+    subst (λ (ws : List W). Puts names code p s part ws) (sym is)
+    (subst (λ (ns : List (List ℕ)). Puts ns code p s part words) same (record {
+      many = puts.many;
+      hold = puts.hold;
+      are = λ own by next low met known are_met.
+          puts.are own by next low met (λ x w met_there there. for_on adds.words (known x w met_there there)) are_met;
+    }))

@@ -1,6 +1,6 @@
 -- The words that stand, and those above them.
-use Rattle.std.proofs.Common.{◌≡◌, ◌≤◌, ◌+◌, ◌++◌, ℕ, List, length, take, drop, sym, ap, ◌∙◌, arith, take-take, take_all, take_at, append_assoc, length-append, length-take-le}
-use Rattle.std.proofs.lemmas.List.{take-append-drop, take-append-le}
+use Rattle.std.proofs.Common.{◌≡◌, ◌≤◌, ◌+◌, ◌++◌, ◌-◌, ℕ, List, length, take, drop, sym, ap, ◌∙◌, arith, take-take, take_at, append_assoc, length-append, length-take-le}
+use Rattle.std.proofs.lemmas.List.{take-append-drop, take-append-le, length-drop}
 
 module _ {X : Type 0} where
   -- where as many stand as before, more stand above them
@@ -10,11 +10,15 @@ module _ {X : Type 0} where
     sym (take-append-drop n (take m new)) ∙ ap (λ (xs : List X). xs ++ drop n (take m new)) (take-take n m new less ∙ same),
   )
 
-  -- the lowest words of a file that grew
-  pub front_grown : (n m : ℕ) (file new more : List X) → n ≤ length file → length file ≤ m → new ≡ take m file ++ more
+  -- the lowest words of a file whose upper end changed
+  pub front_grown : (n m : ℕ) (file new more : List X) → n ≤ length file → n ≤ m → new ≡ take m file ++ more
       → take n new ≡ take n file
   front_grown n m file new more inside less is =
-      ap (take n) (is ∙ ap (λ (xs : List X). xs ++ more) (take_all m file less)) ∙ take-append-le n file more inside
+      let kept = take m file in
+      let same = take-take n m file less in
+      let many = ap length same ∙ length-take-le n file inside in
+      let whole = sym (length-append (take n kept) (drop n kept)) ∙ ap length (take-append-drop n kept) in
+      ap (take n) is ∙ (take-append-le n kept more (omega (arith, many, whole)) ∙ same)
 
   -- words that were written above those that stood
   pub front_written : (n m k : ℕ) (file below words rest others : List X) → n ≤ length file → below ≡ take n file
@@ -49,3 +53,12 @@ module _ {X : Type 0} where
   all_written base count k old file below own rest others stood inside is many less =
       front_written base count k file below own rest others inside (is ∙ sym stood) many less
       ∙ ap (λ (xs : List X). xs ++ own) stood
+
+  -- how many words are between two places of the file
+  pub part_many : (base n count : ℕ) (file part : List X) → count ≡ base + n → count ≤ length file → part ≡ file
+      → length (take (base + n - base) (drop base part)) ≡ n
+  part_many base n count file part is inside same =
+      let size = length-drop base part in
+      let whole = ap length same in
+      let many : base + n - base ≡ n = omega arith in
+      length-take-le (base + n - base) (drop base part) (omega (arith, size, whole, is, inside, many)) ∙ many

@@ -14,5 +14,5 @@ pub use entering::{is_fact, push_clause};
 pub use giving::give_up;
 pub use leveling::push_level;
 pub use meeting::meet_clause;
-pub use putting::{Put, put_goal};
+pub use putting::{Put, put_words};
 pub use words::Words;

@@ -1,4 +1,4 @@
-//! A clause is entered for a call whose arguments are among the words.
+//! A clause is entered for a call whose arguments are words.
 ghost use Rattle.std.specs.Prelude.{◌≡◌, ◌≤◌, ◌<◌, ◌+◌, ◌++◌, ◌^◌, ℕ, List, Some, IfOk, IsTrue, length, take, drop};
 ghost use Rattle.std.specs.List.{All};
 ghost use Rattle.iso_model.specs.Terms.Trees as trees;
@@ -17,29 +17,26 @@ use iso_instructions::Code;
 use iso_machine_core::enter_clause;
 use iso_store_core::StoreFault;
 
-/// Enters the clause for the call whose arguments are the words from this place on, so many (7.7.10): false where its
-/// head and the call don't unify; then it is open what is bound. Words are appended, one for each variable of the
-/// clause: where the two unify, they are its environment. The lists of compounds and of made words lose what they had.
-/// The caller keeps the next number below 2^63. The errors: the store is full, or memory was refused.
+/// Enters the clause for the call with these arguments (7.7.10): false where its head and the call don't unify; then it
+/// is open what is bound. Words are appended, one for each variable of the clause: where the two unify, they are its
+/// environment. The lists of compounds and of made words lose what they had. The caller keeps the next number below
+/// 2^63. The errors: the store is full, or memory was refused.
 pub fn meet_clause<S: Cells>(
     store: &mut S,
     words: &mut Words<S::Word>,
     code: &Code,
-    start: usize,
-    count: usize,
+    arguments: &[S::Word],
     compounds: &mut Vec<S::Word>,
     made: &mut Vec<S::Word>,
 ) -> Result<bool, StoreFault>
     requires clause { (c : databases.Clause) × KeepsCode (S.names store.old) code.now c
-        × (trees.count (arguments_of (Some c.head)) ≡ count) }
-    requires arguments { start + count ≤ length words.old.items }
-    requires held { All (Holds (S.present store.old)) (take count (drop start words.old.items)) }
+        × (trees.count (arguments_of (Some c.head)) ≡ length arguments.now) }
+    requires held { All (Holds (S.present store.old)) arguments.now }
     requires numbers { (S.present store.old).next + code.now.variables < 2 ^ 63 }
     ensures meets { (f : List ℕ) (c : databases.Clause) → KeepsCode (S.names store.old) code.now c
-        → trees.count (arguments_of (Some c.head)) ≡ count
-        → IfOk result (λ met. HasMet (S.present store.old) (S.present store.new) f
-        (take count (drop start words.old.items)) (arguments_of (Some c.head))
-        (drop (length words.old.items) words.new.items) met) }
+        → trees.count (arguments_of (Some c.head)) ≡ length arguments.now
+        → IfOk result (λ met. HasMet (S.present store.old) (S.present store.new) f arguments.now
+        (arguments_of (Some c.head)) (drop (length words.old.items) words.new.items) met) }
     ensures environment { IfOk result (λ met. length words.new.items ≡ length words.old.items + code.now.variables) }
     ensures words { Adds words.old.items words.new.items }
     ensures known { IfOk result (λ met. IsTrue met → (n : ℕ) → n < length (S.names store.new)
@@ -54,13 +51,12 @@ pub fn meet_clause<S: Cells>(
     let filler = store.int(0)?;
     words.grow(code.variables, filler)?;
     store.know_atoms();
-    let (below, above) = words.file.as_mut_slice().split_at_mut(base);
-    let environment = &mut above[..code.variables];
+    let environment = &mut words.file.as_mut_slice()[base..base + code.variables];
     let entered = enter_clause(
         store,
         &code.head,
         code.fresh.as_slice(),
-        &below[start..start + count],
+        arguments,
         environment,
         compounds,
         made,

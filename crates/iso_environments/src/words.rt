@@ -63,7 +63,22 @@ impl<W: Copy> Words<W> {
         self.count = 0;
     }
 
+    /// Puts words on top until so many stand, more than there is memory for; it is open what they are. The error is that
+    /// memory was refused; no word came then.
+    #[inline(never)]
+    fn widen(&mut self, count: usize, filler: W) -> Result<(), AllocError>
+        requires more { length self.old.items ≤ count }
+        ensures adds { (words : List W) × (self.new.items ≡ self.old.items ++ words) }
+        ensures many { OnOk result (length self.new.items ≡ count) }
+        ensures none { OnErr result (self.new.items ≡ self.old.items) }
+    {
+        self.file.resize(count, filler)?;
+        self.count = count;
+        Ok(())
+    }
+
     /// Puts so many words on top; it is open what they are. The error is that memory was refused; no word came then.
+    #[inline(always)]
     pub fn grow(&mut self, more: usize, filler: W) -> Result<(), AllocError>
         ensures adds { (words : List W) × (self.new.items ≡ self.old.items ++ words) }
         ensures many { OnOk result (length self.new.items ≡ length self.old.items + more) }
@@ -73,13 +88,26 @@ impl<W: Copy> Words<W> {
             return Err(AllocError);
         };
         if count > self.file.len() {
-            self.file.resize(count, filler)?;
+            return self.widen(count, filler);
         }
         self.count = count;
         Ok(())
     }
 
+    /// Puts these words on top, in new memory. The error is that memory was refused; no word came then.
+    #[inline(never)]
+    fn extend(&mut self, words: &[W]) -> Result<(), AllocError>
+        ensures words { OnOk result (self.new.items ≡ self.old.items ++ words.now) }
+        ensures none { OnErr result (self.new.items ≡ self.old.items) }
+    {
+        self.file.truncate(self.count);
+        self.file.extend_from_slice(words)?;
+        self.count = self.file.len();
+        Ok(())
+    }
+
     /// Puts these words on top. The error is that memory was refused; no word came then.
+    #[inline(always)]
     pub fn push_all(&mut self, words: &[W]) -> Result<(), AllocError>
         ensures words { OnOk result (self.new.items ≡ self.old.items ++ words.now) }
         ensures none { OnErr result (self.new.items ≡ self.old.items) }
@@ -88,17 +116,16 @@ impl<W: Copy> Words<W> {
             return Err(AllocError);
         };
         if count > self.file.len() {
-            self.file.truncate(self.count);
-            self.file.extend_from_slice(words)?;
-        } else {
-            write_over(self.file.as_mut_slice(), self.count, words);
+            return self.extend(words);
         }
+        write_over(self.file.as_mut_slice(), self.count, words);
         self.count = count;
         Ok(())
     }
 }
 
 /// Writes the words over those from this place on.
+#[inline(always)]
 fn write_over<W: Copy>(file: &mut [W], place: usize, words: &[W])
     requires { place + length words.now ≤ length file.old }
     ensures written { take (place + length words.now) file.new ≡ take place file.old ++ words.now }

@@ -15,23 +15,23 @@ use iso_code::Arguments;
 use iso_store_core::StoreFault;
 use iso_writing::{known_words, write_all};
 
-/// Puts the arguments of a goal, in place of what the list of arguments has (`put_variable`, `put_value`,
-/// `put_constant`, `put_structure`, `put_list`, `set_..`). All its variables were met. The compounds are made in a list
-/// of their own, which loses what it had, as does the list of words. The errors: the store is full, or memory was
-/// refused.
+/// Puts the arguments of a goal (`put_variable`, `put_value`, `put_constant`, `put_structure`, `put_list`, `set_..`). All
+/// its variables were met. The compounds are made in a list of their own, which loses what it had, as does the list of
+/// words. The errors: the store is full, or memory was refused.
 pub fn put_arguments<S: Cells>(
     store: &mut S,
     code: &Arguments,
     environment: &[S::Word],
     compounds: &mut Vec<S::Word>,
-    arguments: &mut Vec<S::Word>,
+    arguments: &mut [S::Word],
     words: &mut Vec<S::Word>,
 ) -> Result<(), StoreFault>
     requires blocks { All (IsSound (length (S.names store.old)) (length environment.now) code.now.compounds) code.now.blocks.items }
     requires compounds { All (IsOfCompound code.now.compounds) code.now.blocks.items }
     requires inside { All (IsInside (length (S.names store.old)) (length environment.now) code.now.compounds) code.now.operands.items }
     requires held { All (IsHeld (S.present store.old) environment.now []) (code.now.operands.items ++ all_operands code.now.blocks.items) }
-    ensures puts { OnOk result (Puts (S.names store.old) code.now (S.present store.old) (S.present store.new) environment.now arguments.new.items) }
+    requires room { length arguments.old ≡ length code.now.operands.items }
+    ensures puts { OnOk result (Puts (S.names store.old) code.now (S.present store.old) (S.present store.new) environment.now arguments.new) }
     ensures adds { OnOk result (Adds (S.present store.old) (S.present store.new)) }
     ensures cells { CountsCells S.Store → Grows (S.present store.old) (S.present store.new) (cells_of_blocks code.now.blocks.items + parts_cells (map (part_at [] 0) code.now.operands.items)) 0 }
     ensures full { result ≡ Err StoreFault.Full → S.full store.new }

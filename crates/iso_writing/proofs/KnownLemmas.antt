@@ -6,7 +6,7 @@ use Rattle.std.proofs.lemmas.Iterator.Consumers.{YieldsList-turn}
 use Rattle.std.specs.List.{All, slice_get}
 use Rattle.std.proofs.lemmas.Bool.{cases_eq, eq-eqb, ne_eqb}
 use Rattle.std.proofs.lemmas.List.{append-nil, map-append, drop_more, map_more, get_or_append_left, get_or-append-add, get_or-reverse, length-set, length-reverse, length_push}
-use Rattle.std.proofs.lemmas.List.Elements.{All-nil, All-weaker, All-head, All-tail, All-push}
+use Rattle.std.proofs.lemmas.List.Elements.{All-weaker, All-head, All-tail, All-push}
 use Rattle.std.proofs.lemmas.Option.{slice_get_read, slice_get_within, get_or_from_slice_get}
 use Rattle.iso_model.specs.Terms.Trees.{Tree, Apply, End, More, row}
 use Rattle.iso_model.specs.Terms.Substitutions.{Subst, apply}
@@ -37,6 +37,10 @@ adds_on first second = record {
   substitution = second.substitution ∙ first.substitution;
   numbers = record { next = second.numbers.next ∙ first.numbers.next; taken = λ n. second.numbers.taken n ∙ first.numbers.taken n };
 }
+
+-- a word came
+pub adds_made : {W : Type 0} {p q : Present W} {w : W} {t : Tree} → Makes p q w t → KeepsNumbers p q → Adds p q
+adds_made makes numbers = record { words = makes.words; substitution = makes.substitution; numbers = numbers }
 
 -- a word is for its term still, and what is known is known still
 pub for_on : {W : Type 0} {p q : Present W} {own by : Subst} {w : W} {a : Tree} → KeepsWords p q → IsFor p own by w a → IsFor q own by w a
@@ -123,16 +127,6 @@ pushed_more pushed own by next rs f old new xs x many are one = record {
 }
 
 -- ---- words of operands, one behind the other
-
--- where there is no word yet
-pub row_none : {W : Type 0} (f : W → Tree) (own : Subst) (ws : List W) → ws ≡ [] → apply own (row (map f ws)) ≡ End
-row_none f own ws none = ap (λ vs. apply own (row (map f vs))) none
-
-pub all_none : {W : Type 0} (P : W → Type 0) (ws : List W) → ws ≡ [] → All P ws
-all_none P ws none = subst (All P) (sym none) (All-nil P)
-
-pub length_none : {W : Type 0} (ws : List W) → ws ≡ [] → length ws ≡ 0
-length_none ws none = ap length none
 
 -- words that stand have their terms still
 pub terms_kept : {W : Type 0} {p q : Present W} → KeepsWords p q → (ws : List W) → All (Holds p) ws → map q.term ws ≡ map p.term ws

@@ -69,31 +69,32 @@ fn constant_or_compound<S: Cells>(
     }
 }
 
-/// The words of the arguments that operands are, whose variables were met. The list gets them in place of what it had.
-/// The errors: the store is full, or memory was refused.
+/// Writes the words of the arguments that operands are, whose variables were met. The errors: the store is full, or
+/// memory was refused.
 #[inline(always)]
 pub fn known_words<S: Cells>(
     store: &mut S,
     operands: &[Operand],
     environment: &[S::Word],
     compounds: &[S::Word],
-    words: &mut Vec<S::Word>,
+    words: &mut [S::Word],
 ) -> Result<(), StoreFault>
     requires inside { All (IsInside (length (S.names store.old)) (length environment.now) (length compounds.now)) operands.now }
     requires held { All (IsHeld (S.present store.old) environment.now compounds.now) operands.now }
+    requires room { length words.old ≡ length operands.now }
     ensures words { (own by : Subst) (next low : ℕ) (met : ℕ → Bool) (rs : Registers) → Known (S.present store.old) own by next low met environment.now compounds.now rs → All (IsMet met) operands.now
-        → OnOk result (apply own (row (map (S.present store.new).term words.new.items)) ≡ apply by (part_row next rs (map (part_at (S.names store.old) low) operands.now))) }
-    ensures hold { OnOk result (All (Holds (S.present store.new)) words.new.items) }
-    ensures many { OnOk result (length words.new.items ≡ length operands.now) }
+        → OnOk result (apply own (row (map (S.present store.new).term words.new)) ≡ apply by (part_row next rs (map (part_at (S.names store.old) low) operands.now))) }
+    ensures hold { OnOk result (All (Holds (S.present store.new)) words.new) }
+    ensures many { OnOk result (length words.new ≡ length operands.now) }
     ensures adds { OnOk result (Adds (S.present store.old) (S.present store.new)) }
     ensures cells { CountsCells S.Store → Grows (S.present store.old) (S.present store.new) (parts_cells (map (part_at (S.names store.old) 0) operands.now)) 0 }
     ensures full { result ≡ Err StoreFault.Full → S.full store.new }
     ensures rest { RetainsAll S.Store store.old store.new }
 {
-    words.clear();
-    for operand in operands {
-        let word = known_word(store, operand, environment, compounds)?;
-        words.push(word)?;
+    let mut index = 0;
+    while index < operands.len() {
+        words[index] = known_word(store, &operands[index], environment, compounds)?;
+        index += 1;
     }
     Ok(())
 }
@@ -120,6 +121,15 @@ pub(crate) fn write_wide<S: Cells>(
     ensures full { result ≡ Err StoreFault.Full → S.full store.new }
     ensures rest { RetainsAll S.Store store.old store.new }
 {
-    known_words(store, operands, environment, compounds, words)?;
+    let filler = store.int(0)?;
+    words.clear();
+    words.resize(operands.len(), filler)?;
+    known_words(
+        store,
+        operands,
+        environment,
+        compounds,
+        words.as_mut_slice(),
+    )?;
     store.compound(name, words.as_slice())
 }

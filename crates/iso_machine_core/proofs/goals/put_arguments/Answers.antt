@@ -44,7 +44,7 @@ returns-clause-puts g c =
     let words = rw (c.as_slice-operands.ensures.value, back, names) at c.known_words.ensures.words in
     let many = rw c.as_slice-operands.ensures.value at c.known_words.ensures.many in
     all_put (g.S.Store.names c.args.store.now) c.args.code.now (g.S.Store.present c.args.store.now) (g.S.Store.present c.fill_compounds.new.store) (g.S.Store.present c.write_all.new.store) (g.S.Store.present c.known_words.new.store)
-    c.args.environment.now c.fill_compounds.new.compounds.items c.write_all.new.compounds c.known_words.new.words.items c.known_words.result
+    c.args.environment.now c.fill_compounds.new.compounds.items c.write_all.new.compounds c.known_words.new.words c.known_words.result
     c.in_ok-fill_compounds.ensures.adds.words c.in_ok-fill_compounds.ensures.fillers made words c.known_words.ensures.hold many
 
 pub returns-clause-cells : goal.returns-clause-cells
