@@ -1,5 +1,5 @@
 -- The head of a clause met the arguments of a call: what that says of the call, of words, and of the clause's body.
-use Rattle.std.proofs.Common.{◌≡◌, ◌≢◌, ◌≤◌, ◌<◌, ◌+◌, ◌++◌, ℕ, zero, suc, List, [], ◌∷◌, length, map, take, drop, get_or, true, false, Option, Some, refl, ap, ap₂, ◌∙◌, sym, subst, arith, length-drop, length-take-le}
+use Rattle.std.proofs.Common.{◌≡◌, ◌≢◌, ◌<◌, ◌+◌, ◌++◌, ℕ, zero, suc, List, [], ◌∷◌, length, map, get_or, true, false, Option, Some, refl, ap, ap₂, ◌∙◌, sym, subst, arith}
 use Rattle.std.specs.List.{All, slice_get}
 use Rattle.std.proofs.lemmas.List.{length-map}
 use Rattle.std.proofs.lemmas.Option.{slice_get-get_or}
@@ -32,12 +32,11 @@ use Rattle.iso_frames.proofs.ChainLemmas.{chain_pushed}
 use Rattle.iso_environments.specs.Stacks.{stack}
 use Rattle.iso_environments.specs.Entered.{clause_members}
 use Rattle.iso_machine.specs.declared.framed.Framed.{Framed}
-use Rattle.iso_machine.specs.declared.framed.KeptCall.{KeptCall}
 use Rattle.iso_machine.specs.declared.entering.Entered.{Entered}
 use Rattle.iso_machine.specs.declared.entering.Entered.TheVariants as entered
 use Rattle.iso_machine.specs.Entered.{Begins, Comes, IfAt}
 use Rattle.iso_environments.specs.Goals.{goal_of}
-use Rattle.iso_machine.specs.Lists.{IsFor, IsList, arguments_at, extent_of}
+use Rattle.iso_machine.specs.Lists.{IsList, IsPut, extent_of}
 use Rattle.iso_machine.specs.Wholes.{whole_list}
 use Rattle.iso_machine.proofs.GoalLemmas.{same_unified, same_never, other_never}
 
@@ -103,40 +102,33 @@ module _ {S W M : Type 0} (atom_word : ℕ → W) {p : Present W} (l : Framed S 
       (record { nodes = adds_none l.nodes.items; frames = adds_none l.frames.items; words = (words, are) })
       (record { stand = λ w h. h; terms = λ w h. refl }) list))
 
--- ---- the call that is kept
+-- ---- the arguments that were put
 
 name_text : {f g : List ℕ} → Name f ≡ Name g → f ≡ g
 name_text e = cc
 
-part_long : {X : Type 0} (m n : ℕ) (xs : List X) → m + n ≤ length xs → length (take n (drop m xs)) ≡ n
-part_long {X = X} m n xs within =
-    let behind = length-drop {A = X} m xs in
-    length-take-le n (drop m xs) (omega (arith, behind, within))
-
-module _ {S W M : Type 0} (atom_word : ℕ → W) {p : Present W} (l : Framed S W M) {call : KeptCall}
-    {goal : Tree} (is : IsFor atom_word p l (extent_of l) call goal) where
-  pub arguments_many : length (arguments_at l call) ≡ call.count
-  arguments_many = part_long call.start call.count l.words.items is.within
-
-  -- its name, by the atom's
-  pub call_named : (text : List ℕ) → p.term (atom_word call.name) ≡ Name text → is.name ≡ text
+module _ {S W M : Type 0} (atom_word : ℕ → W) {p : Present W} (l : Framed S W M) {atom : ℕ} {goal : Tree}
+    (is : IsPut atom_word p l atom goal) where
+  -- the goal's name, by the atom's
+  pub call_named : (text : List ℕ) → p.term (atom_word atom) ≡ Name text → is.name ≡ text
   call_named text named = name_text (sym is.named ∙ named)
 
   -- the key of a head that was found to be its own
-  pub call_key : (text : List ℕ) → is.name ≡ text → (head : Tree) → key_of head ≡ Some (key text call.count)
-      → key_of head ≡ Some (key is.name (length (arguments_at l call)))
-  call_key text named head same =
-      same ∙ ap₂ (λ (f : List ℕ) (n : ℕ). Some (key f n)) (sym named) (sym arguments_many)
+  pub call_key : (text : List ℕ) → is.name ≡ text → (head : Tree)
+      → key_of head ≡ Some (key text (length l.arguments.items))
+      → key_of head ≡ Some (key is.name (length l.arguments.items))
+  call_key text named head same = same ∙ ap (λ (f : List ℕ). Some (key f (length l.arguments.items))) (sym named)
 
   -- a head of another key never equals it
   pub call_other : (text : List ℕ) → is.name ≡ text → (head : Tree) → is_term head ≡ true → (x : Key)
-      → key_of head ≡ Some x → key_of head ≢ Some (key text call.count) → NeverEqual goal (new_head p head)
+      → key_of head ≡ Some x → key_of head ≢ Some (key text (length l.arguments.items))
+      → NeverEqual goal (new_head p head)
   call_other text named head term x has other =
-      let args = arguments_at l call in
-      let many = length-map args (meaning p) ∙ arguments_many in
+      let args = l.arguments.items in
       subst (λ (t : Tree). NeverEqual t (new_head p head)) (sym is.is)
       (other_never is.name p.next p.substitution (map (meaning p) args) head term x has
-      (λ same. other (same ∙ ap₂ (λ (f : List ℕ) (n : ℕ). Some (key f n)) named many)))
+      (λ same. other
+      (same ∙ ap₂ (λ (f : List ℕ) (n : ℕ). Some (key f n)) named (length-map args (meaning p)))))
 
 -- ---- the clause was entered
 

@@ -18,12 +18,10 @@ use Rattle.iso_model.specs.Terms.Trees.{Tree}
 use Rattle.iso_model.specs.Search.Databases as databases
 use Rattle.iso_model.specs.Search.Walker.{State, Member, tried_clause, body_size}
 use Rattle.iso_store_core.specs.declared.stores.Store.{Ghosts}
-use Rattle.iso_search_core.specs.declared.choices.Attempt.{Attempt}
 use Rattle.iso_search_core.specs.declared.nows.Now.TheVariants as now
 use Rattle.iso_search.specs.EngineStates.{StandsAs}
 use Rattle.iso_instructions.specs.declared.instructions.Instruction.TheVariants.{Execute, Jump, Proceed}
 use Rattle.iso_frames.specs.declared.frames.Next.TheVariants as next
-use Rattle.iso_machine.specs.declared.framed.KeptCall.{KeptCall}
 use Rattle.iso_machine.specs.Engines.{Engine, framed}
 use Rattle.iso_machine.specs.Entered.{Begins}
 use Rattle.iso_machine.specs.Wholes.{whole_chain}
@@ -98,15 +96,15 @@ pub last_front : {S W M : Type 0} (l : Framed S W M) (frames : Vec Frame Global)
 last_front l frames code height behind has =
     sym (ap (take (length l.frames.items)) has ∙ take-append_seam l.frames.items _)
 
-module _ {S W M : Type 0} (g : Ghosts S W M) (atom_word : ℕ → W) (e : Engine S W M) (attempt : Attempt KeptCall)
-    (rest : Option Rest) (s : State) (call : Tree) (c : databases.Clause) (cs : List databases.Clause)
+module _ {S W M : Type 0} (g : Ghosts S W M) (atom_word : ℕ → W) (e : Engine S W M)
+    (rest : Option Rest) (s : State) (call : Tree) (c : databases.Clause)
     (behind : List Member) (store : S) (held : Framed S W M) (mark : ℕ) (frames : Vec Frame Global)
     (code : Rc Code Global) (has : HasFrame held frames code mark rest) (alone : CallsAlone code.value) where
   abbrev lists : Framed S W M
   lists = with_frames held frames
 
   -- the engine with the frame is where the search comes to
-  pub last_engine : Tried g (framed atom_word) e attempt rest s call c cs behind store lists
+  pub last_engine : Tried g (framed atom_word) e rest s c behind store lists
       → Begins atom_word (g.present e.store) (g.present store) call c mark behind lists (Some (place_of held))
       → pending_at lists (Some (place_of held)) ≤ 2 * body_size c.body + pending_at e.lists rest
       → StandsAs g (framed atom_word)
@@ -116,7 +114,7 @@ module _ {S W M : Type 0} (g : Ghosts S W M) (atom_word : ℕ → W) (e : Engine
   last_engine tried b pending =
       let there = last_there held frames code mark rest has alone in
       let is = alone.called in
-      begun_engine g atom_word e attempt rest s call c cs behind store lists mark tried (Some (place_of held)) b pending
+      begun_engine g atom_word e rest s call c behind store lists mark tried (Some (place_of held)) b pending
       (now.Running (next.Code (place_of held))) (
         (
           whole_chain atom_word lists b.list,

@@ -6,6 +6,7 @@ pub mod Given
 pub mod Go
 pub mod Goal
 pub mod Instruction
+pub mod Kept
 pub mod Last
 pub mod Level
 pub mod Split

@@ -1,30 +1,43 @@
 -- A goal of which the machine has the name and words for the arguments, as it is called.
-use Rattle.std.specs.Prelude.{◌≡◌, ◌≢◌, ◌≤◌, ◌<◌, ◌+◌, ℕ, length, map, Option}
+use Rattle.std.specs.Prelude.{◌≡◌, ◌≢◌, ◌≤◌, ◌<◌, ◌+◌, ◌*◌, ℕ, List, ◌∷◌, length, map, Option}
 use Rattle.std.specs.List.{All}
 use Rattle.iso_atoms.specs.Texts.{text_at}
 use Rattle.iso_model.specs.Terms.Trees.{Tree}
 use Rattle.iso_model.specs.Terms.Substitutions.{apply}
 use Rattle.iso_model.specs.Search.Bodies.{Run}
-use Rattle.iso_model.specs.Search.Walker.{State, World, Goal}
+use Rattle.iso_model.specs.Search.Clashes.{EachEnters}
+use Rattle.iso_model.specs.Search.Databases as databases
+use Rattle.iso_model.specs.Search.Walker.{State, World, Goal, Member}
 use Rattle.iso_model.proofs.Search.RunLaws.Likeness.{Alike}
 use Rattle.iso_db.specs.declared.keyed.KeyedView.{KeyedView}
 use Rattle.iso_store_core.specs.Presents.{Holds, meaning}
 use Rattle.iso_store_core.specs.declared.stores.Store.{Ghosts}
 use Rattle.iso_search_core.specs.Fitting.{FitsState}
+use Rattle.iso_search_core.specs.Standing.{most_numbers, numbers_a_step}
 use Rattle.iso_frames.specs.declared.frames.Rest.{Rest}
 use Rattle.iso_environments.specs.Goals.{goal_of}
 use Rattle.iso_search.specs.Called.{CallsAt}
-use Rattle.iso_search.specs.EngineStates.{IsAtMember, Represents, cost, cost_from, leaves_of, weight}
+use Rattle.iso_search.specs.EngineStates.{IsAhead, IsAtMember, Represents, cost, cost_from, leaves_of, weight}
 use Rattle.iso_search.specs.Nexts.{IsGoalFirst}
 use Rattle.iso_search.specs.Stays.{Stays}
 use Rattle.iso_search.specs.Worlds.{IsWorld}
 use Rattle.iso_machine.specs.Engines.{Engine, framed}
-use Rattle.iso_machine.specs.Lists.{pending_at}
+use Rattle.iso_machine.specs.Lists.{IsPut, pending_at}
 
 module _ {S W M : Type 0} (g : Ghosts S W M) (atom_word : ℕ → W) where
   -- the goal of this name whose arguments were put
   abbrev pub goal_put : Engine S W M → ℕ → Tree
   goal_put e name = goal_of (text_at (g.names e.store) name) (map (meaning (g.present e.store)) e.lists.arguments.items)
+
+  -- The engine, in this state, is about to try the first of these clauses for the goal whose arguments were put, before
+  -- the list from the place on. The goal may enter each of them, as first arguments show.
+  pub record CallsPut (e : Engine S W M) (clause : ℕ) (later : KeyedView) (name : ℕ) (rest : Option Rest) (s : State)
+      (goal : Tree) (c : databases.Clause) (cs : List databases.Clause) (behind : List Member) : Type 0 where
+    pub ahead : IsAhead g (framed atom_word) e (record s { list = behind }) rest
+    pub space : s.next + numbers_a_step * (e.steps + 1) ≤ most_numbers
+    pub put : IsPut atom_word (g.present e.store) e.lists name goal
+    pub clauses : leaves_of g (framed atom_word) e clause later (c ∷ cs)
+    pub enter : EachEnters goal (c ∷ cs)
 
   -- In a state of its own, which is alike this one, the engine has a goal of this value first, and the list from the
   -- place on behind it. So many cells may still come for the goal, beside those that the list is to take.

@@ -71,6 +71,14 @@ module _ {S W M : Type 0} where
   pending_at l place = pending_of l.frames.items place
 
   module _ (atom_word : ℕ → W) where
+    -- The arguments that were put are those of this goal, of a name that is known.
+    pub record IsPut (p : Present W) (l : Framed S W M) (atom : ℕ) (goal : Tree) : Type 0 where
+      pub hold : All (Holds p) l.arguments.items
+      pub known : Holds p (atom_word atom)
+      pub name : List ℕ
+      pub named : p.term (atom_word atom) ≡ Name name
+      pub is : goal ≡ goal_of name (map (meaning p) l.arguments.items)
+
     -- The call that is kept there, when so much stood, is this goal: of a name that is known, with these words for its
     -- arguments.
     pub record IsFor (p : Present W) (l : Framed S W M) (k : Extent) (c : KeptCall) (goal : Tree) : Type 0 where

@@ -15,7 +15,7 @@ ghost use Rattle.iso_machine.specs.Engines.{framed};
 ghost use Rattle.iso_machine.specs.Steps.{IsOtherThere};
 
 use super::arithmetic::compute;
-use super::calling::{Gone, enter_clause};
+use super::calling::{Gone, enter_clause, take_arguments};
 use super::control::cut_back;
 use super::framed::{Framed, KeptCall};
 use super::goal_places::{Act, act_there};
@@ -119,7 +119,9 @@ pub(crate) fn try_next<S: Cells + Drop>(
 {
     let newest = search.go_back();
     let below = search.leave_choice(newest.mark);
-    match enter_clause(search, retry.clause, retry.call, newest.rest, below, false)? {
+    take_arguments(&mut search.lists, retry.call)?;
+    let name = retry.call.name;
+    match enter_clause(search, retry.clause, name, newest.rest, below, false)? {
         Gone::Went => Ok(Next::Went),
         Gone::Full => unreachable!(),
         Gone::Last => unreachable!(),

@@ -1,5 +1,6 @@
 //! The moves at a goal of a procedure: its clauses are entered, and a choice keeps those behind (7.7.7, 7.7.10).
-ghost use Rattle.std.specs.Prelude.{◌≡◌, ◌≢◌, ◌<◌, ◌≤◌, ◌+◌, ◌-◌, ◌^◌, ℕ, List, ◌∷◌, Ok, Err, Option, Some, IfOk, OnOk, OnErr};
+ghost use Rattle.std.specs.Prelude.{◌≡◌, ◌≢◌, ◌<◌, ◌≤◌, ◌+◌, ◌-◌, ◌^◌, ℕ, List, ◌∷◌, Ok, Err, Option, Some};
+ghost use Rattle.std.specs.Prelude.{IfOk, OnOk, OnErr};
 ghost use Rattle.std.specs.Prelude.{length, map, max, true, false};
 ghost use Rattle.std.specs.List.{All};
 ghost use Rattle.iso_model.specs.Terms.Trees.{Name, Tree};
@@ -10,7 +11,7 @@ ghost use Rattle.iso_db.specs.declared.keyed.KeyedView.{KeyedView};
 ghost use Rattle.iso_store_core.specs.Presents.{Present, Holds, meaning};
 ghost use Rattle.iso_plain_core.specs.Entering.{Adds};
 ghost use Rattle.iso_search_core.specs.Bodies.{body_cost, left_cost, most};
-ghost use Rattle.iso_search.specs.EngineStates.{Calls, IsAhead, Remains, StandsAs, WasRefused, cost, kept_cost};
+ghost use Rattle.iso_search.specs.EngineStates.{IsAhead, Remains, StandsAs, WasRefused, cost, kept_cost};
 ghost use Rattle.iso_search.specs.EngineStates.{phase_of};
 ghost use Rattle.iso_search.specs.Stays.{Stays};
 ghost use Rattle.iso_frames.specs.Frames.{depth_of, top_of};
@@ -18,7 +19,8 @@ ghost use Rattle.iso_machine.specs.declared.framed.KeptCall.{KeptCall};
 ghost use Rattle.iso_machine.specs.Engines.{IsBeyond, framed};
 ghost use Rattle.iso_machine.specs.LastCalls.{GoesLast};
 ghost use Rattle.iso_environments.specs.Goals.{goal_of};
-ghost use Rattle.iso_machine.specs.Lists.{IsFor, KeepsFrames, cost_at, extent_of};
+ghost use Rattle.iso_machine.specs.GoalCalls.{CallsPut};
+ghost use Rattle.iso_machine.specs.Lists.{IsFor, KeepsFrames, arguments_at, cost_at, extent_of};
 ghost use Rattle.iso_machine.specs.Newest.{frames_kept, words_kept};
 
 use super::entering::{Entered, enter, makes_frame};
@@ -105,35 +107,54 @@ pub(crate) fn keep_arguments<S: Cells>(
     })
 }
 
-/// Keeps the call's later clauses, which the view gives, as a choice where there are any (7.7.8), and one more may come
-/// then: true. The error is that memory was refused.
+/// The arguments of the call that is kept come back, in place of those that were put. The error is that memory was
+/// refused.
+pub(crate) fn take_arguments<S: Cells>(
+    lists: &mut Framed<S>,
+    call: KeptCall,
+) -> Result<(), AllocError>
+    requires { call.start + call.count ≤ length lists.old.words.items }
+    ensures arguments { OnOk result (lists.new.arguments.items ≡ arguments_at lists.old call) }
+    ensures same { lists.new ≡ record lists.old { arguments = lists.new.arguments } }
+{
+    lists.arguments.clear();
+    let words = &lists.words.as_slice()[call.start..][..call.count];
+    lists.arguments.push_all(words)
+}
+
+/// Keeps the later clauses of the call of this name, which the view gives, as a choice where there are any (7.7.8), and
+/// one more may come then: true. The choice keeps the arguments that were put. The error is that memory was refused.
 fn push_later<S: Cells + Drop>(
     search: &mut Search<S, Framed<S>>,
     later: &mut KeyedView,
-    call: KeptCall,
+    name: Atom,
     rest: Option<Rest>,
 ) -> Result<bool, AllocError>
     requires room { (first : ℕ) (s : State) (goal : Tree) (c : databases.Clause) (cs : List databases.Clause)
-        (behind : List Member) → Calls S.Store (framed S.atom_word) search.old
-        (record { clause = first; later = later.old; call = call }) rest s goal c cs behind
+        (behind : List Member) → CallsPut S.Store S.atom_word search.old first later.old
+        name rest s goal c cs behind
         → 0 < length cs → length search.old.choices.items < search.old.limit }
     requires calls { (first : ℕ) × (s : State) × (goal : Tree) × (c : databases.Clause) × (cs : List databases.Clause)
-        × (behind : List Member) × Calls S.Store (framed S.atom_word) search.old
-        (record { clause = first; later = later.old; call = call }) rest s goal c cs behind }
+        × (behind : List Member) × CallsPut S.Store S.atom_word search.old first later.old
+        name rest s goal c cs behind }
     ensures calls { (first : ℕ) (s : State) (goal : Tree) (c : databases.Clause) (cs : List databases.Clause)
-        (behind : List Member) → Calls S.Store (framed S.atom_word) search.old
-        (record { clause = first; later = later.old; call = call }) rest s goal c cs behind
-        → result ≡ Ok true → Calls S.Store (framed S.atom_word) search.new
-        (record { clause = first; later = later.old; call = call }) rest
-        (with_others goal cs behind s) goal c cs behind }
+        (behind : List Member) → CallsPut S.Store S.atom_word search.old first later.old
+        name rest s goal c cs behind
+        → result ≡ Ok true → CallsPut S.Store S.atom_word search.new first later.old
+        name rest (with_others goal cs behind s) goal c cs behind }
     ensures kept { (first : ℕ) (s : State) (goal : Tree) (c : databases.Clause) (cs : List databases.Clause)
-        (behind : List Member) → Calls S.Store (framed S.atom_word) search.old
-        (record { clause = first; later = later.old; call = call }) rest s goal c cs behind
+        (behind : List Member) → CallsPut S.Store S.atom_word search.old first later.old
+        name rest s goal c cs behind
         → OnErr result (Remains S.Store (framed S.atom_word) search.new s) }
     ensures room { result ≢ Ok false }
     ensures costs { result ≡ Ok true → kept_cost (framed S.atom_word) search.new
         ≤ kept_cost (framed S.atom_word) search.old + left_cost most (cost_at search.old.lists rest) }
-    ensures same { search.new ≡ record search.old { store = search.new.store; choices = search.new.choices } }
+    ensures same { search.new ≡ record search.old {
+      store = search.new.store;
+      choices = search.new.choices;
+      lists
+          = record search.old.lists { words = search.new.lists.words };
+    } }
     ensures stays { Stays S.Store search.old search.new }
 {
     if !has_left(&search.db, later) {
@@ -142,6 +163,7 @@ fn push_later<S: Cells + Drop>(
     let Some(clause) = next_left(&search.db, later) else {
         unreachable!();
     };
+    let call = keep_arguments(&mut search.lists, name)?;
     let left = Left::Clauses(Attempt {
         clause,
         later: *later,
@@ -158,33 +180,33 @@ fn may_go_last<S: Cells + Drop>(search: &Search<S, Framed<S>>, last: bool) -> bo
     last && search.lists.frames.len() < search.limit as usize
 }
 
-/// Enters the clause for the call, before the list from this place on, with this cut mark; where its head doesn't
-/// unify with the call the engine fails next (7.7.10). It makes no frame where it is said to be the last and its body
-/// is one goal of a procedure. The errors: the store is full, or memory was refused.
+/// Enters the clause for the call of this name whose arguments were put, before the list from this place on, with this
+/// cut mark; where its head doesn't unify with the call the engine fails next (7.7.10). It makes no frame where it is
+/// said to be the last and its body is one goal of a procedure. The errors: the store is full, or memory was refused.
 pub(crate) fn enter_clause<S: Cells + Drop>(
     search: &mut Search<S, Framed<S>>,
     clause: ClauseId,
-    call: KeptCall,
+    name: Atom,
     rest: Option<Rest>,
     mark: usize,
     last: bool,
 ) -> Result<Gone, StoreFault>
     requires { (s : State) × (goal : Tree) × (c : databases.Clause) × (cs : List databases.Clause)
-        × (behind : List Member) × (later : KeyedView) × Calls S.Store (framed S.atom_word) search.old
-        (record { clause = clause; later = later; call = call }) rest s goal c cs behind }
+        × (behind : List Member) × (later : KeyedView) × CallsPut S.Store S.atom_word search.old clause later
+        name rest s goal c cs behind }
     ensures tried { (s : State) (goal : Tree) (c : databases.Clause) (cs : List databases.Clause)
-        (behind : List Member) (later : KeyedView) → Calls S.Store (framed S.atom_word) search.old
-        (record { clause = clause; later = later; call = call }) rest s goal c cs behind
+        (behind : List Member) (later : KeyedView) → CallsPut S.Store S.atom_word search.old clause later
+        name rest s goal c cs behind
         → result ≡ Ok Gone.Went → StandsAs S.Store (framed S.atom_word) search.new (tried_clause goal c mark behind s) }
     ensures kept { (s : State) (goal : Tree) (c : databases.Clause) (cs : List databases.Clause)
-        (behind : List Member) (later : KeyedView) → Calls S.Store (framed S.atom_word) search.old
-        (record { clause = clause; later = later; call = call }) rest s goal c cs behind
+        (behind : List Member) (later : KeyedView) → CallsPut S.Store S.atom_word search.old clause later
+        name rest s goal c cs behind
         → OnErr result (Remains S.Store (framed S.atom_word) search.new (tried_clause goal c mark behind s)) }
     ensures alone { result ≡ Ok Gone.Last → last ≡ true }
     ensures last { result ≡ Ok Gone.Last → GoesLast search.new clause rest (λ e. ((s : State) (goal : Tree)
         (c : databases.Clause) (cs : List databases.Clause) (behind : List Member) (later : KeyedView)
-        → Calls S.Store (framed S.atom_word) search.old (record { clause = clause; later = later; call = call }) rest s
-        goal c cs behind → StandsAs S.Store (framed S.atom_word) e (tried_clause goal c mark behind s))
+        → CallsPut S.Store S.atom_word search.old clause later name rest s goal c cs behind
+        → StandsAs S.Store (framed S.atom_word) e (tried_clause goal c mark behind s))
         × (cost (framed S.atom_word) e
         ≤ kept_cost (framed S.atom_word) search.old + body_cost most (cost_at search.old.lists rest))) }
     ensures entered { result ≢ Ok Gone.Full }
@@ -201,7 +223,7 @@ pub(crate) fn enter_clause<S: Cells + Drop>(
         &mut search.store,
         &mut search.lists,
         entered,
-        call,
+        name,
         rest,
         mark,
         last,
@@ -223,12 +245,12 @@ fn lacks_room<S: Cells + Drop>(
     last: bool,
 ) -> bool
     requires { (s : State) × (goal : Tree) × (c : databases.Clause) × (cs : List databases.Clause)
-        × (behind : List Member) × (call : KeptCall) × Calls S.Store (framed S.atom_word) search.now
-        (record { clause = clause; later = later.now; call = call }) rest s goal c cs behind }
+        × (behind : List Member) × (name : ℕ) × CallsPut S.Store S.atom_word search.now clause later.now
+        name rest s goal c cs behind }
     ensures beyond { result ≡ true → IsBeyond S.Store S.atom_word search.entry.now rest }
     ensures room { (first : ℕ) (s : State) (goal : Tree) (c : databases.Clause) (cs : List databases.Clause)
-        (behind : List Member) (call : KeptCall) → Calls S.Store (framed S.atom_word) search.entry.now
-        (record { clause = first; later = later.now; call = call }) rest s goal c cs behind
+        (behind : List Member) (name : ℕ) → CallsPut S.Store S.atom_word search.entry.now first later.now
+        name rest s goal c cs behind
         → result ≡ false → 0 < length cs → length search.entry.now.choices.items < search.entry.now.limit }
 {
     if has_room(search, rest) {
@@ -240,34 +262,35 @@ fn lacks_room<S: Cells + Drop>(
     makes_frame(search.db.clause(clause).own.kept.as_ref(), last)
 }
 
-/// Calls a procedure, where the choice and the frame may come that it makes: this clause is entered, those behind it,
-/// which the view gives, are one choice (7.7.7). It makes no frame where it is said to be the last and the clause's body is one goal of
-/// a procedure. The errors: the store is full, or memory was refused.
+/// Calls the procedure of this name with the arguments that were put, where the choice and the frame may come that it
+/// makes: this clause is entered, those behind it, which the view gives, are one choice (7.7.7). It makes no frame
+/// where it is said to be the last and the clause's body is one goal of a procedure. The errors: the store is full, or
+/// memory was refused.
 pub(crate) fn call<S: Cells + Drop>(
     search: &mut Search<S, Framed<S>>,
     clause: ClauseId,
     later: &mut KeyedView,
-    call: KeptCall,
+    name: Atom,
     rest: Option<Rest>,
     last: bool,
 ) -> Result<Gone, StoreFault>
     requires { (s : State) × (goal : Tree) × (c : databases.Clause) × (cs : List databases.Clause)
-        × (behind : List Member) × Calls S.Store (framed S.atom_word) search.old
-        (record { clause = clause; later = later.old; call = call }) rest s goal c cs behind }
+        × (behind : List Member) × CallsPut S.Store S.atom_word search.old clause later.old
+        name rest s goal c cs behind }
     ensures tried { (s : State) (goal : Tree) (c : databases.Clause) (cs : List databases.Clause)
-        (behind : List Member) → Calls S.Store (framed S.atom_word) search.old
-        (record { clause = clause; later = later.old; call = call }) rest s goal c cs behind
+        (behind : List Member) → CallsPut S.Store S.atom_word search.old clause later.old
+        name rest s goal c cs behind
         → result ≡ Ok Gone.Went → StandsAs S.Store (framed S.atom_word) search.new (tried goal (c ∷ cs) behind s) }
     ensures full { result ≡ Ok Gone.Full → search.new ≡ search.old }
     ensures beyond { result ≡ Ok Gone.Full → IsBeyond S.Store S.atom_word search.old rest }
     ensures kept { (s : State) (goal : Tree) (c : databases.Clause) (cs : List databases.Clause)
-        (behind : List Member) → Calls S.Store (framed S.atom_word) search.old
-        (record { clause = clause; later = later.old; call = call }) rest s goal c cs behind
+        (behind : List Member) → CallsPut S.Store S.atom_word search.old clause later.old
+        name rest s goal c cs behind
         → OnErr result (WasRefused S.Store (framed S.atom_word) search.new s (tried goal (c ∷ cs) behind s)) }
     ensures alone { result ≡ Ok Gone.Last → last ≡ true }
     ensures last { result ≡ Ok Gone.Last → GoesLast search.new clause rest (λ e. ((s : State) (goal : Tree)
         (c : databases.Clause) (cs : List databases.Clause) (behind : List Member)
-        → Calls S.Store (framed S.atom_word) search.old (record { clause = clause; later = later.old; call = call })
+        → CallsPut S.Store S.atom_word search.old clause later.old name
         rest s goal c cs behind → StandsAs S.Store (framed S.atom_word) e (tried goal (c ∷ cs) behind s))
         × (cost (framed S.atom_word) e ≤ kept_cost (framed S.atom_word) search.old
         + left_cost most (cost_at search.old.lists rest) + body_cost most (cost_at search.old.lists rest))) }
@@ -283,8 +306,8 @@ pub(crate) fn call<S: Cells + Drop>(
         return Ok(Gone::Full);
     }
     let mark = search.choices.len();
-    if !push_later(search, later, call, rest)? {
+    if !push_later(search, later, name, rest)? {
         unreachable!();
     }
-    enter_clause(search, clause, call, rest, mark, last)
+    enter_clause(search, clause, name, rest, mark, last)
 }

@@ -1,5 +1,6 @@
-//! A clause is entered for a call that is kept, over the store and the lists, with no search.
-ghost use Rattle.std.specs.Prelude.{◌≡◌, ◌≢◌, ◌≤◌, ◌<◌, ◌+◌, ◌-◌, ◌*◌, ◌++◌, ◌^◌, ℕ, List, Some, Err, IfOk, Vec, length};
+//! A clause is entered for a call whose arguments were put, over the store and the lists, with no search.
+ghost use Rattle.std.specs.Prelude.{◌≡◌, ◌≢◌, ◌≤◌, ◌<◌, ◌+◌, ◌-◌, ◌*◌, ◌++◌, ◌^◌, ℕ, List, Some, Err, IfOk, Vec};
+ghost use Rattle.std.specs.Prelude.{length};
 ghost use Rattle.std.specs.Prelude.{true, false, ◌⊎◌};
 ghost use Rattle.iso_atoms.specs.Texts.{text_at};
 ghost use Rattle.iso_model.specs.Terms.Trees.{Tree};
@@ -23,9 +24,9 @@ ghost use Rattle.std.specs.Global.{Global};
 ghost use Rattle.iso_frames.specs.declared.frames.Frame.{Frame};
 ghost use Rattle.iso_machine.specs.LastCalls.{CallsAlone, HasFrame, place_of, with_frames};
 ghost use Rattle.iso_machine.specs.Entered.{Begins, IfAt, Comes};
-ghost use Rattle.iso_machine.specs.Lists.{IsList, IsFor, cost_at, extent_of, pending_at};
+ghost use Rattle.iso_machine.specs.Lists.{IsList, IsPut, cost_at, extent_of, pending_at};
 
-use super::framed::{Framed, KeptCall};
+use super::framed::Framed;
 use iso_atoms::Atom;
 use iso_cells::Cells;
 use iso_environments::{is_fact, meet_clause, push_clause};
@@ -72,19 +73,19 @@ pub(crate) fn makes_frame(code: &Code, last: bool) -> bool
     }
 }
 
-/// Whether the head of the clause with this code has the name of the call, and as many arguments.
-fn is_called<S: Store>(store: &S, code: &Code, call: KeptCall) -> bool
-    requires name { call.name < length (S.names store.now) }
+/// Whether the head of the clause with this code has this name, and so many arguments.
+fn is_called<S: Store>(store: &S, code: &Code, name: Atom, count: usize) -> bool
+    requires name { name < length (S.names store.now) }
     requires code { (c : databases.Clause) × KeepsCode (S.names store.now) code.now c }
     ensures same { (c : databases.Clause) → KeepsCode (S.names store.now) code.now c → result ≡ true
-        → key_of c.head ≡ Some (key (text_at (S.names store.now) call.name) call.count) }
+        → key_of c.head ≡ Some (key (text_at (S.names store.now) name) count) }
     ensures other { (c : databases.Clause) → KeepsCode (S.names store.now) code.now c → result ≡ false
-        → key_of c.head ≢ Some (key (text_at (S.names store.now) call.name) call.count) }
+        → key_of c.head ≢ Some (key (text_at (S.names store.now) name) count) }
 {
-    if code.arity != call.count {
+    if code.arity != count {
         return false;
     }
-    code.name == call.name || store.text(code.name) == store.text(call.name)
+    code.name == name || store.text(code.name) == store.text(name)
 }
 
 /// Where the list begins behind the head of a clause that was entered with this cut mark, before the list from `rest`
@@ -124,26 +125,26 @@ fn begin<S: Cells>(
     Ok(Entered::At(Some(place)))
 }
 
-/// Enters the clause for the call, before the list from `rest` on, with this cut mark (7.7.10): without a frame where it
-/// is said to be the last and its body is one goal of a procedure. The caller keeps the next number below 2^63. The
-/// errors: the store is full, or memory was refused.
+/// Enters the clause for the call of this name whose arguments were put, before the list from `rest` on, with this cut
+/// mark (7.7.10): without a frame where it is said to be the last and its body is one goal of a procedure. The caller
+/// keeps the next number below 2^63. The errors: the store is full, or memory was refused.
 pub(crate) fn enter<S: Cells>(
     store: &mut S,
     lists: &mut Framed<S>,
     clause: &Clause<OwnOf<S, Framed<S>>>,
-    call: KeptCall,
+    name: Atom,
     rest: Option<Rest>,
     mark: usize,
     last: bool,
 ) -> Result<Entered, StoreFault>
     requires { (c : databases.Clause) × (goal : Tree) × (ms : List Member)
         × IsClause (own_of (framed S.atom_word)) (S.names store.old) clause.now c
-        × IsFor S.atom_word (S.present store.old) lists.old (extent_of lists.old) call goal
+        × IsPut S.atom_word (S.present store.old) lists.old name goal
         × IsList S.atom_word (S.present store.old) lists.old (extent_of lists.old) rest ms
         × ((S.present store.old).next + clause.now.variables < 2 ^ 63) }
     ensures comes { (c : databases.Clause) (goal : Tree) (ms : List Member)
         → IsClause (own_of (framed S.atom_word)) (S.names store.old) clause.now c
-        → IsFor S.atom_word (S.present store.old) lists.old (extent_of lists.old) call goal
+        → IsPut S.atom_word (S.present store.old) lists.old name goal
         → IsList S.atom_word (S.present store.old) lists.old (extent_of lists.old) rest ms
         → IfOk result (λ e. Comes S.atom_word (S.present store.old) (S.present store.new) goal c mark ms lists.new e) }
     ensures cost { IfOk result (λ e. IfAt e (λ place. cost_at lists.new place
@@ -159,7 +160,7 @@ pub(crate) fn enter<S: Cells>(
     ensures last { (fs : Vec Frame Global) (c : databases.Clause) (goal : Tree) (ms : List Member)
         → result ≡ Ok Entered.Last → HasFrame lists.new fs clause.now.own.kept mark rest
         → IsClause (own_of (framed S.atom_word)) (S.names store.old) clause.now c
-        → IsFor S.atom_word (S.present store.old) lists.old (extent_of lists.old) call goal
+        → IsPut S.atom_word (S.present store.old) lists.old name goal
         → IsList S.atom_word (S.present store.old) lists.old (extent_of lists.old) rest ms
         → Begins S.atom_word (S.present store.old) (S.present store.new) goal c mark ms (with_frames lists.new fs)
         (Some (place_of lists.new)) }
@@ -170,15 +171,15 @@ pub(crate) fn enter<S: Cells>(
     ensures rest { RetainsAll S.Store store.old store.new }
 {
     let code = &clause.own.kept;
-    if !is_called(store, code.as_ref(), call) {
+    let count = lists.arguments.len();
+    if !is_called(store, code.as_ref(), name, count) {
         return Ok(Entered::Missed);
     }
     let met = meet_clause(
         store,
         &mut lists.words,
         code.as_ref(),
-        call.start,
-        call.count,
+        lists.arguments.as_slice(),
         &mut lists.compounds,
         &mut lists.made,
     )?;

@@ -63,7 +63,7 @@ pub struct Framed<S: Store> {
     /// The words of environments, and of the arguments of calls.
     pub(crate) words: Words<S::Word>,
     /// The arguments of the call that is made.
-    pub(crate) arguments: Vec<S::Word>,
+    pub(crate) arguments: Words<S::Word>,
     /// Compounds that a head or a goal has.
     pub(crate) compounds: Vec<S::Word>,
     /// The arguments of a compound that is made.
@@ -193,7 +193,7 @@ impl<S: Cells> Lists<S> for Framed<S> {
             nodes: Vec::new(alloc),
             frames: Vec::new(alloc),
             words: Words::new(alloc),
-            arguments: Vec::new(alloc),
+            arguments: Words::new(alloc),
             compounds: Vec::new(alloc),
             made: Vec::new(alloc),
             values: Vec::new(alloc),

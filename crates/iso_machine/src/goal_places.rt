@@ -22,10 +22,9 @@ use super::framed::Framed;
 use iso_cells::Cells;
 use iso_compile::Mark;
 use iso_db::{ClauseId, Db};
-use iso_environments::Put;
+use iso_environments::{Put, put_words};
 use iso_frames::{Frame, Rest, Work};
 use iso_instructions::{Code, Goal, Instruction};
-use iso_machine_core::put_arguments;
 use iso_program::clauses::Clause;
 use iso_search::search::Search;
 use iso_search_core::own::OwnOf;
@@ -173,7 +172,7 @@ pub(crate) fn put_next<S: Cells + Drop>(
     );
     let (goal, behind) = called_at(at.code, at.rest, at.behind);
     let environment = &lists.words.as_slice()[at.top - at.code.variables..at.top];
-    put_arguments(
+    put_words(
         &mut search.store,
         &goal.arguments,
         environment,

@@ -1,8 +1,10 @@
 //! Goals are called, by the words that they are or by the arguments that were put (7.7.7).
-ghost use Rattle.std.specs.Prelude.{◌≡◌, ◌≢◌, ◌<◌, ◌≤◌, ℕ, IfOk, IfSome, MatchOption, Ok, length};
+ghost use Rattle.std.specs.Prelude.{◌≡◌, ◌≢◌, ◌<◌, ◌≤◌, ℕ, IfOk, IfSome, MatchOption, Ok, OnOk, length, true};
 ghost use Rattle.iso_atoms.specs.Texts.{text_at};
 ghost use Rattle.iso_model.specs.Search.Keys.{Key, key_of};
 ghost use Rattle.iso_model.specs.Search.Walker.{State, World};
+ghost use Rattle.iso_model.specs.Terms.Sorts.{is_term};
+ghost use Rattle.iso_store_core.specs.ArgumentWords.{AreArguments};
 ghost use Rattle.iso_store_core.specs.Presents.{Holds, meaning};
 ghost use Rattle.iso_search_core.specs.Replies.{HasName};
 ghost use Rattle.iso_search_core.specs.declared.nows.Now.TheVariants as now;
@@ -29,8 +31,9 @@ use super::putting::{called_put, go, show_goal, show_next};
 use iso_atoms::Atom;
 use iso_cells::Cells;
 use iso_db::{ClauseId, KeyedView};
-use iso_environments::Put;
+use iso_environments::{Put, Words};
 use iso_frames::{Next as First, Rest};
+use iso_model::NoMemory;
 use iso_search::calls::{Called, Next, NextGoal};
 use iso_search::search::Search;
 use iso_search_core::goals::read_arguments;
@@ -51,6 +54,25 @@ fn name_of<S: Store>(store: &S, goal: S::Word) -> Atom
     }
 }
 
+/// Reads the arguments of the goal that the word stands for, in place of those that were put. The list is for words,
+/// and loses what it had. The error is that memory was refused.
+fn read_goal<S: Store>(
+    store: &S,
+    goal: S::Word,
+    made: &mut Vec<S::Word>,
+    arguments: &mut Words<S::Word>,
+) -> Result<(), NoMemory>
+    requires { Holds (S.present store.now) goal }
+    ensures arguments { OnOk result (AreArguments (S.present store.now) arguments.new.items
+        (meaning (S.present store.now) goal)) }
+    ensures term { is_term (meaning (S.present store.now) goal) ≡ true }
+{
+    read_arguments(store, goal, made)?;
+    arguments.clear();
+    arguments.push_all(made.as_slice())?;
+    Ok(())
+}
+
 /// Calls the procedure of the goal that comes first, which the word stands for: reads its arguments, and enters this
 /// clause. The errors: the store is full, or memory was refused.
 fn go_word<S: Cells + Drop>(
@@ -69,7 +91,8 @@ fn go_word<S: Cells + Drop>(
     ensures { CameTo S.Store S.atom_word search.old result search.new }
 {
     let name = name_of(&search.store, goal);
-    read_arguments(&search.store, goal, &mut search.lists.arguments)?;
+    let lists = &mut search.lists;
+    read_goal(&search.store, goal, &mut lists.made, &mut lists.arguments)?;
     match go(search, clause, later, name, behind, false)? {
         Gone::Went => Ok(Next::Went),
         Gone::Full => Ok(Next::Full),
@@ -160,6 +183,17 @@ fn leave_goal<S: Cells + Drop>(
     show_next(search, put.name, put.behind, called, asked)
 }
 
+/// The place of the instruction that comes first, where one does.
+#[inline(always)]
+fn code_first<W: Copy>(doing: &Now<First<W>, Option<Rest>>) -> Option<Rest>
+    ensures { IfSome result (λ rest. doing.now ≡ now.Running (next.Code rest)) }
+{
+    match doing {
+        Now::Running(First::Code(rest)) => Some(*rest),
+        _ => None,
+    }
+}
+
 /// Does arithmetic and cuts, as long as they come first; arithmetic only where a step is left. Gives the place of the
 /// instruction that comes first then, where it calls a goal. The errors: the store is full, or memory was refused.
 fn go_to_call<S: Cells + Drop>(
@@ -173,10 +207,7 @@ fn go_to_call<S: Cells + Drop>(
     ensures steps { IfOk result (λ found. search.new.steps ≤ search.old.steps) }
 {
     loop {
-        let Now::Running(first) = search.now else {
-            return Ok(None);
-        };
-        let First::Code(rest) = first else {
+        let Some(rest) = code_first(&search.now) else {
             return Ok(None);
         };
         match act_there(search.lists.frames.as_slice(), rest) {
@@ -206,7 +237,7 @@ pub(crate) fn call_goal<S: Cells + Drop>(
     let mut went = false;
     loop {
         let put = put_next(search, place)?;
-        if search.lists.arguments.is_empty() {
+        if search.lists.arguments.as_slice().is_empty() {
             return call_atom(search, put, went, asked);
         }
         let mut later = KeyedView::nothing();

@@ -24,11 +24,11 @@ ghost use Rattle.iso_search.specs.Worlds.{IsWorld};
 ghost use Rattle.iso_machine.specs.Came.{Came, CameLast};
 ghost use Rattle.iso_machine.specs.Engines.{Engine, framed};
 ghost use Rattle.iso_machine.specs.GoalCalls.{IsCallPut, IsToCall, IsShown, goal_put};
-ghost use Rattle.iso_machine.specs.Lists.{IsFor, cost_at, extent_of};
+ghost use Rattle.iso_machine.specs.Lists.{IsPut, cost_at};
 ghost use Rattle.iso_machine.specs.Newest.{frames_kept, words_kept};
 
-use super::calling::{Gone, call, give_up, keep_arguments};
-use super::framed::{Framed, KeptCall};
+use super::calling::{Gone, call, give_up};
+use super::framed::Framed;
 use iso_atoms::Atom;
 use iso_cells::Cells;
 use iso_db::{ClauseId, KeyedView};
@@ -38,23 +38,18 @@ use iso_search::calls::{Called, Next, NextGoal};
 use iso_search::search::Search;
 use iso_search_core::nows::Now;
 use iso_store_core::{Store, StoreFault};
-use std::alloc::AllocError;
 
-/// Takes the step of a call of this name, gives up what the list from the place on doesn't need, and keeps the
-/// arguments that were put. The error is that memory was refused.
-fn make_ready<S: Cells + Drop>(
-    search: &mut Search<S, Framed<S>>,
-    name: Atom,
-    behind: Option<Rest>,
-) -> Result<KeptCall, AllocError>
+/// Takes the step of a call of this name, whose arguments were put, and gives up what the list from the place on
+/// doesn't need.
+fn make_ready<S: Cells + Drop>(search: &mut Search<S, Framed<S>>, name: Atom, behind: Option<Rest>)
     requires more { search.old.steps ≢ 0 }
     requires name { name < length (S.names search.old.store) }
     requires hold { All (Holds (S.present search.old.store)) search.old.lists.arguments.items }
     requires stands { (s : State) × IsAhead S.Store (framed S.atom_word) search.old s behind }
     ensures ahead { (s : State) → IsAhead S.Store (framed S.atom_word) search.old s behind
         → IsAhead S.Store (framed S.atom_word) search.new (record s { steps = search.old.steps - 1 }) behind }
-    ensures is_for { IfOk result (λ call. IsFor S.atom_word (S.present search.new.store) search.new.lists
-        (extent_of search.new.lists) call (goal_put S.Store S.atom_word search.old name)) }
+    ensures put { IsPut S.atom_word (S.present search.new.store) search.new.lists name
+        (goal_put S.Store S.atom_word search.old name) }
     ensures steps { search.new.steps ≡ search.old.steps - 1 }
     ensures names { S.names search.new.store ≡ S.names search.old.store }
     ensures clauses { search.new.db ≡ search.old.db }
@@ -62,15 +57,13 @@ fn make_ready<S: Cells + Drop>(
     ensures behind { cost_at search.new.lists behind ≡ cost_at search.old.lists behind }
     ensures frames { length search.new.lists.frames.items
         ≤ max (frames_kept search.old.choices.items) (depth_of behind) }
-    ensures words { IfOk result (λ call. length search.new.lists.words.items
-        ≤ max (words_kept search.old.choices.items) (top_of search.old.lists.frames.items behind)
-        + length search.old.lists.arguments.items) }
+    ensures words { length search.new.lists.words.items
+        ≤ max (words_kept search.old.choices.items) (top_of search.old.lists.frames.items behind) }
     ensures stays { Stays S.Store search.old search.new }
 {
     search.steps -= 1;
     search.store.know_atoms();
     give_up(search, behind);
-    keep_arguments(&mut search.lists, name)
 }
 
 /// Makes the call of the goal whose arguments were put: this clause is entered, without a frame where it is said to be
@@ -91,8 +84,8 @@ pub(crate) fn go<S: Cells + Drop>(
     ensures alone { result ≡ Ok Gone.Last → last ≡ true }
     ensures steps { IfOk result (λ gone. search.new.steps < search.old.steps) }
 {
-    let kept = make_ready(search, name, behind)?;
-    match call(search, clause, later, kept, behind, last)? {
+    make_ready(search, name, behind);
+    match call(search, clause, later, name, behind, last)? {
         Gone::Went => Ok(Gone::Went),
         Gone::Full => {
             search.now = Now::Spent(Limit::Frames);
@@ -207,7 +200,7 @@ pub(crate) fn called_put<S: Cells + Drop>(
         → IsCalled (leaves_of S.Store (framed S.atom_word) search.entry.now) later.new w
         (goal_put S.Store S.atom_word search.entry.now name) result }
 {
-    let first = search.lists.arguments[0];
+    let first = search.lists.arguments.as_slice()[0];
     has_once(&search.store, first);
     search.named(name, search.lists.arguments.len(), Some(first), later)
 }

@@ -21,16 +21,15 @@ use Rattle.iso_store_core.specs.declared.stores.Store.{Ghosts}
 use Rattle.iso_program.specs.Kept.{AreTemplates}
 use Rattle.iso_program.specs.Values.{HasValues}
 use Rattle.iso_program.proofs.ClauseLemmas.{templates-parts}
-use Rattle.iso_search_core.specs.declared.choices.Attempt.{Attempt}
 use Rattle.iso_search_core.specs.declared.lists.Lists as lists
 use Rattle.iso_search_core.specs.declared.nows.Now.{Now}
 use Rattle.iso_search_core.specs.declared.nows.Now.TheVariants as now
 use Rattle.iso_search_core.specs.Fitting.{FitsState}
 use Rattle.iso_search_core.specs.Standing as standing
-use Rattle.iso_search_core.specs.Standing.{GoesOn, DoesNext}
+use Rattle.iso_search_core.specs.Standing.{GoesOn, DoesNext, most_numbers, numbers_a_step}
 use Rattle.iso_search_core.proofs.WordLemmas.{variables_more}
 use Rattle.iso_search.specs.declared.search.Search.{Search}
-use Rattle.iso_search.specs.EngineStates.{IsAhead, IsBehind, IsEngine, Keeps, Remains, StandsAs, SameUnder, Calls}
+use Rattle.iso_search.specs.EngineStates.{IsAhead, IsBehind, IsEngine, Keeps, Remains, StandsAs, SameUnder}
 use Rattle.iso_search.proofs.AheadLemmas.{engine_place}
 use Rattle.iso_search.proofs.CountedLemmas.{clause_counts}
 use Rattle.iso_search.proofs.Moves.Search.{stands_itself}
@@ -130,9 +129,10 @@ module _ {S L W M K P C N B O : Type 0} (g : Ghosts S W M) (l : lists.Ghosts L S
   onward e store held doing = record e { store = store; lists = held; now = doing }
 
   -- The engine tried the clause, and these are the store and the lists now.
-  pub record Tried (e : Search S L W M K P C N B O) (attempt : Attempt C) (rest : P) (s : State) (call : Tree)
-      (c : databases.Clause) (cs : List databases.Clause) (behind : List Member) (store : S) (held : L) : Type 0 where
-    pub calls : Calls g l e attempt rest s call c cs behind
+  pub record Tried (e : Search S L W M K P C N B O) (rest : P) (s : State) (c : databases.Clause)
+      (behind : List Member) (store : S) (held : L) : Type 0 where
+    pub ahead : IsAhead g l e (record s { list = behind }) rest
+    pub space : s.next + numbers_a_step * (e.steps + 1) ≤ most_numbers
     pub keeps : KeepsMarks (g.stands e.store) (g.stands store)
     pub texts : KeepsTexts (g.names e.store) (g.names store)
     pub grows : standing.Keeps l e.lists held
@@ -141,9 +141,8 @@ module _ {S L W M K P C N B O : Type 0} (g : Ghosts S W M) (l : lists.Ghosts L S
     pub few : c.variables ≤ most_variables
     pub goals : AreTemplates c.variables (goals_of c.body)
 
-  module _ (e : Search S L W M K P C N B O) (attempt : Attempt C) (rest : P) (s : State) (call : Tree)
-      (c : databases.Clause) (cs : List databases.Clause) (behind : List Member) (store : S) (held : L) (mark : ℕ)
-      (t : Tried e attempt rest s call c cs behind store held) where
+  module _ (e : Search S L W M K P C N B O) (rest : P) (s : State) (call : Tree) (c : databases.Clause)
+      (behind : List Member) (store : S) (held : L) (mark : ℕ) (t : Tried e rest s c behind store held) where
     abbrev p : Present W
     p = g.present e.store
 
@@ -151,10 +150,10 @@ module _ {S L W M K P C N B O : Type 0} (g : Ghosts S W M) (l : lists.Ghosts L S
     q = g.present store
 
     abbrev subst_is : p.substitution ≡ s.subst
-    subst_is = (t.calls).ahead.goes.subst
+    subst_is = t.ahead.goes.subst
 
     abbrev next_was : p.next ≡ s.next
-    next_was = (t.calls).ahead.goes.next
+    next_was = (t.ahead).goes.next
 
     -- nothing makes the head and the call equal
     pub missed_engine : NeverEqual call (new_head p c.head)
@@ -164,7 +163,7 @@ module _ {S L W M K P C N B O : Type 0} (g : Ghosts S W M) (l : lists.Ghosts L S
         subst (λ (r : Subst). NeverEqual call (apply r (renamed s.next c.head))) subst_is
         (subst (λ (n : ℕ). NeverEqual call (apply p.substitution (renamed n c.head))) next_was never) in
         let is = clause_missed call c mark behind s none in
-        let h = (t.calls).ahead in
+        let h = (t.ahead) in
         let v : State = record s {
           list = Fail ∷ [];
           next = s.next + c.variables;
@@ -219,7 +218,7 @@ module _ {S L W M K P C N B O : Type 0} (g : Ghosts S W M) (l : lists.Ghosts L S
           → SameUnder q.substitution (compose s.subst u) (record there { list = behind })
       behind_values goals =
           let own = subst (λ (r : Subst). HasValues p q r) bound values in
-          same_values own e.query.items (record there { list = behind }) next_is goals (t.calls).ahead.goes.words
+          same_values own e.query.items (record there { list = behind }) next_is goals (t.ahead).goes.words
 
       -- the engine's own state
       abbrev own_state : State
@@ -227,7 +226,7 @@ module _ {S L W M K P C N B O : Type 0} (g : Ghosts S W M) (l : lists.Ghosts L S
 
       own_engine : (n : Now N P) → IsBehind l q held place n ms → IsEngine g l (onward e store held n) own_state
       own_engine n comes =
-          let h = (t.calls).ahead in
+          let h = (t.ahead) in
           let ahead : IsAhead g l (onward e store held n) own_state place = record {
             world = world_on l t.texts h.world;
             steps = h.steps;
@@ -241,7 +240,7 @@ module _ {S L W M K P C N B O : Type 0} (g : Ghosts S W M) (l : lists.Ghosts L S
               subst = refl;
               next = next_is;
               room =
-                  (let few = t.few in let space = (t.calls).space in let steps = h.steps in
+                  (let few = t.few in let space = t.space in let steps = h.steps in
                   omega (arith, few, space, steps));
               words = variables_more values.words h.goes.words;
             };

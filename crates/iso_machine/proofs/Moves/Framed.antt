@@ -9,7 +9,6 @@ use Rattle.iso_model.specs.Search.Walker.{State, Member, Goal, tried_clause, bod
 use Rattle.iso_store_core.specs.Presents.{Present}
 use Rattle.iso_store_core.specs.declared.stores.Store.{Ghosts}
 use Rattle.iso_program.specs.Values.{HasValues}
-use Rattle.iso_search_core.specs.declared.choices.Attempt.{Attempt}
 use Rattle.iso_search_core.specs.declared.nows.Now.{Now}
 use Rattle.iso_search_core.specs.Words.{word_terms}
 use Rattle.iso_search.specs.EngineStates.{IsBehind, StandsAs}
@@ -19,7 +18,6 @@ use Rattle.iso_frames.specs.declared.frames.Rest.{Rest}
 use Rattle.iso_frames.specs.declared.frames.Next.{Next}
 use Rattle.iso_frames.specs.Running.{placed}
 use Rattle.iso_environments.specs.Entered.{clause_members}
-use Rattle.iso_machine.specs.declared.framed.KeptCall.{KeptCall}
 use Rattle.iso_machine.specs.declared.framed.Framed.{Framed}
 use Rattle.iso_machine.specs.Engines.{Engine, framed}
 use Rattle.iso_machine.specs.Entered.{Begins}
@@ -43,19 +41,19 @@ unfolding members_if
 members_false q words height c is = ap (members_if q words height c.body) is
 
 module _ {S W M : Type 0} (g : Ghosts S W M) (atom_word : ℕ → W) where
-  pub begun_engine : (e : Engine S W M) (attempt : Attempt KeptCall) (rest : Option Rest) (s : State) (call : Tree)
-      (c : databases.Clause) (cs : List databases.Clause) (behind : List Member) (store : S) (held : Framed S W M)
-      (mark : ℕ) → (t : Tried g (framed atom_word) e attempt rest s call c cs behind store held) → (place : Option Rest)
+  pub begun_engine : (e : Engine S W M) (rest : Option Rest) (s : State) (call : Tree) (c : databases.Clause)
+      (behind : List Member) (store : S) (held : Framed S W M)
+      (mark : ℕ) → (t : Tried g (framed atom_word) e rest s c behind store held) → (place : Option Rest)
       → (b : Begins atom_word (g.present e.store) (g.present store) call c mark behind held place)
       → pending_at held place ≤ 2 * body_size c.body + pending_at e.lists rest → (n : Now (Next W) (Option Rest))
       → IsBehind (framed atom_word) (g.present store) held place n
       (clause_members (g.present store) b.words mark c ++ behind)
       → StandsAs g (framed atom_word) (onward g (framed atom_word) e store held n) (tried_clause call c mark behind s)
-  begun_engine e attempt rest s call c cs behind store held mark t place b pending n comes =
+  begun_engine e rest s call c behind store held mark t place b pending n comes =
       let p = g.present e.store in
       let q = g.present store in
       let ms = clause_members q b.words mark c ++ behind in
-      let ahead = (t.calls).ahead in
+      let ahead = t.ahead in
       let bound : compose p.substitution b.unifier ≡ compose s.subst b.unifier =
       ap (λ (r : Subst). compose r b.unifier) ahead.goes.subst in
       let values : HasValues p q (compose s.subst b.unifier) =
@@ -64,7 +62,7 @@ module _ {S W M : Type 0} (g : Ghosts S W M) (atom_word : ℕ → W) where
       ahead.chain in
       elim (cases_Bool (is_true c.body)) [
         | inl fact ↦
-            fact_engine g (framed atom_word) e attempt rest s call c cs behind store held mark t b.unifier b.is b.values
+            fact_engine g (framed atom_word) e rest s call c behind store held mark t b.unifier b.is b.values
             b.next place ms b.list pending n comes fact
             (ap (λ (xs : List Member). xs ++ behind) (members_true q b.words mark c fact)) goals
         | inr other ↦ (
@@ -74,7 +72,7 @@ module _ {S W M : Type 0} (g : Ghosts S W M) (atom_word : ℕ → W) where
             → apply q.substitution (terms x) ≡ apply (compose s.subst b.unifier) (new x) =
             λ x below. b.variables x below ∙ ap (λ (m : ℕ). apply b.unifier (p.substitution (m + x))) ahead.goes.next
             ∙ ap (λ (r : Subst). apply b.unifier (r (s.next + x))) ahead.goes.subst in
-            body_engine g (framed atom_word) e attempt rest s call c cs behind store held mark t b.unifier b.is b.values
+            body_engine g (framed atom_word) e rest s call c behind store held mark t b.unifier b.is b.values
             b.next place ms b.list pending n comes (map_body terms c.body) other
             (body_fitting q.substitution terms (compose s.subst b.unifier) new c.variables each c.body t.goals)
             (ap (λ (xs : List Member). xs ++ behind) (members_false q b.words mark c other)) goals)

@@ -27,6 +27,7 @@ use Rattle.iso_frames.specs.Frames.{Chain, Calls}
 use Rattle.iso_frames.specs.Costs.{compound_cells, first_cost, first_pending}
 use Rattle.iso_environments.specs.Goals.{goal_of}
 use Rattle.iso_environments.proofs.GoalLemmas.{goal_means}
+use Rattle.iso_environments.specs.Stacked.{Stacked}
 use Rattle.iso_environments.specs.Putting.{HasPut, IsBehind, IsCallThere, arguments_cells}
 use Rattle.iso_environments.specs.declared.putting.Put.{Put}
 use Rattle.iso_search.specs.Called.{CallsAt}
@@ -98,15 +99,16 @@ module _ {S W M : Type 0} (g : Ghosts S W M) (atom_word : ℕ → W) where
   }
 
   -- the arguments of a goal were read, which a word stands for
-  pub word_put : (e : Engine S W M) (word : W) (behind : Option Rest) (arguments : Vec W Global) (name : ℕ)
+  pub word_put : (e : Engine S W M) (word : W) (behind : Option Rest) (arguments : Stacked W)
+      (made : Vec W Global) (name : ℕ)
       → IsGoalFirst g (framed atom_word) e word behind
       → AreArguments (g.present e.store) arguments.items (meaning (g.present e.store) word)
       → is_term (meaning (g.present e.store) word) ≡ true → name < length (g.names e.store)
       → HasName (text_at (g.names e.store) name) (meaning (g.present e.store) word)
-      → IsCallPut g atom_word e (record e { lists = record e.lists { arguments = arguments } }) name behind 0
-  word_put e word behind arguments name first are fits there named =
+      → IsCallPut g atom_word e (record e { lists = record e.lists { arguments = arguments; made = made } }) name behind 0
+  word_put e word behind arguments made name first are fits there named =
       let p = g.present e.store in
-      let more : Framed S W M = record e.lists { arguments = arguments } in
+      let more : Framed S W M = record e.lists { arguments = arguments; made = made } in
       let value = goal_named p arguments.items (meaning p word) (text_at (g.names e.store) name) named fits are in
       record {
         at = λ s r.
@@ -145,16 +147,17 @@ module _ {S W M : Type 0} (g : Ghosts S W M) (atom_word : ℕ → W) where
       }
 
   -- and it is called
-  pub word_called : (e : Engine S W M) (word : W) (behind : Option Rest) (arguments : Vec W Global) (name clause : ℕ)
+  pub word_called : (e : Engine S W M) (word : W) (behind : Option Rest) (arguments : Stacked W)
+      (made : Vec W Global) (name clause : ℕ)
       (later : KeyedView) → IsGoalFirst g (framed atom_word) e word behind
       → AreArguments (g.present e.store) arguments.items (meaning (g.present e.store) word)
       → is_term (meaning (g.present e.store) word) ≡ true → name < length (g.names e.store)
       → HasName (text_at (g.names e.store) name) (meaning (g.present e.store) word) → e.steps ≢ 0
       → ((w : World) → IsWorld g (framed atom_word) e w
       → CallsAt (leaves_of g (framed atom_word) e) w (meaning (g.present e.store) word) clause later)
-      → IsToCall g atom_word e (record e { lists = record e.lists { arguments = arguments } }) clause later name behind
-  word_called e word behind arguments name clause later first are fits there named more calls = record {
-    put = word_put e word behind arguments name first are fits there named;
+      → IsToCall g atom_word e (record e { lists = record e.lists { arguments = arguments; made = made } }) clause later name behind
+  word_called e word behind arguments made name clause later first are fits there named more calls = record {
+    put = word_put e word behind arguments made name first are fits there named;
     more = more;
     calls = λ w is. subst (λ (t : Tree). CallsAt (leaves_of g (framed atom_word) e) w t clause later)
         (goal_named (g.present e.store) arguments.items (meaning (g.present e.store) word)
@@ -162,11 +165,11 @@ module _ {S W M : Type 0} (g : Ghosts S W M) (atom_word : ℕ → W) where
   }
 
   -- reading them was refused
-  pub word_refused : (e : Engine S W M) (arguments : Vec W Global) (s : State)
+  pub word_refused : (e : Engine S W M) (arguments : Stacked W) (made : Vec W Global) (s : State)
       → Represents g (framed atom_word) e s
-      → Refused g (framed atom_word) (record e { lists = record e.lists { arguments = arguments } }) s
-  word_refused e arguments s r =
-      let more : Framed S W M = record e.lists { arguments = arguments } in
+      → Refused g (framed atom_word) (record e { lists = record e.lists { arguments = arguments; made = made } }) s
+  word_refused e arguments made s r =
+      let more : Framed S W M = record e.lists { arguments = arguments; made = made } in
       let left = remains_all g (framed atom_word) e r.own r.engine in
       refuses_here g (framed atom_word) (record e { lists = more }) r.own s r.same (
         keeps_lists g (framed atom_word) e more (r.own).world (r.own).stack left.0
@@ -183,7 +186,8 @@ module _ {S W M : Type 0} (g : Ghosts S W M) (atom_word : ℕ → W) where
   at_code e rest doing r = (next_is g (framed atom_word) e r.own (now.Running (next.Code rest)) doing r.engine).0.0
 
   module _ (e : Engine S W M) (rest : Rest) (doing : e.now ≡ now.Running (next.Code rest))
-      (there : IsCallThere e.lists.frames.items rest) (store : S) (compounds arguments made : Vec W Global) where
+      (there : IsCallThere e.lists.frames.items rest) (store : S) (compounds : Vec W Global)
+      (arguments : Stacked W) (made : Vec W Global) where
     abbrev more : Framed S W M
     more = record e.lists { compounds = compounds; arguments = arguments; made = made }
 

@@ -18,6 +18,7 @@ use Rattle.iso_writing.specs.Writing.{Adds}
 use Rattle.iso_instructions.specs.declared.instructions.Goal as instruction
 use Rattle.iso_frames.specs.Frames.{Chain}
 use Rattle.iso_frames.specs.Costs.{compound_cells}
+use Rattle.iso_environments.specs.Stacked.{Stacked}
 use Rattle.iso_environments.specs.Putting.{HasPut, IsBehind, IsGoalThere, arguments_cells}
 use Rattle.iso_search.specs.Stays.{Stays}
 use Rattle.iso_search.proofs.Moves.Search.{refuses_here}
@@ -194,7 +195,8 @@ same_engine e same doing =
     }) same (sym doing)
 
 module _ {S W M : Type 0} (g : Ghosts S W M) (atom_word : ℕ → W) (e : Engine S W M) (frames : Vec Frame Global)
-    (rest : Rest) (store : S) (compounds arguments made : Vec W Global) where
+    (rest : Rest) (store : S) (compounds : Vec W Global) (arguments : Stacked W)
+    (made : Vec W Global) where
   abbrev whole : Engine S W M
   whole = with_frame e frames rest
 

@@ -12,9 +12,7 @@ use Rattle.iso_frames.specs.Costs.{pending_of}
 use Rattle.iso_frames.specs.declared.frames.Frame.{Frame}
 use Rattle.iso_frames.specs.declared.frames.Rest.{Rest}
 use Rattle.iso_environments.specs.Entered.{clause_members}
-use Rattle.iso_search_core.specs.declared.choices.Attempt.{Attempt}
 use Rattle.iso_machine.specs.declared.entering.Entered.{Entered}
-use Rattle.iso_machine.specs.declared.framed.KeptCall.{KeptCall}
 use Rattle.iso_machine.specs.Engines.{framed}
 use Rattle.iso_machine.specs.Entered.{Comes, IfAt}
 use Rattle.iso_machine.specs.Lists.{cost_at, pending_at}
@@ -51,7 +49,7 @@ coming-search-requires g c =
     let calls = c.requires.6 in
     let is = left_clause (g.S.Store.names e.store) e.db calls.clauses c.clause-entered.result.now
     c.clause-entered.ensures in
-    let comes = c.in_ok-enter.ensures.comes k c.requires.1 c.requires.4 is calls.is_for calls.ahead.chain in
+    let comes = c.in_ok-enter.ensures.comes k c.requires.1 c.requires.4 is calls.put calls.ahead.chain in
     let b = subst (λ (x : Entered). Comes a (g.S.Store.present e.store) (g.S.Store.present c.enter.new.store)
     c.requires.1 k c.args.mark c.requires.4 c.enter.new.lists x) c.in-At.is comes in
     (clause_members (g.S.Store.present c.enter.new.store) b.words c.args.mark k ++ c.requires.4, b.list)
@@ -65,12 +63,12 @@ returns-in-Missed-clause-tried g c = λ s t k ks gs later calls done.
     let held = c.enter.new.lists in
     let is = left_clause (g.S.Store.names e.store) e.db calls.clauses c.clause-entered.result.now
     c.clause-entered.ensures in
-    let comes = on.comes k t gs is calls.is_for calls.ahead.chain in
+    let comes = on.comes k t gs is calls.put calls.ahead.chain in
     let never = subst (λ (x : Entered). Comes a (g.S.Store.present e.store) (g.S.Store.present store) t k c.args.mark gs
     held x) c.in-Missed.is comes in
-    let tried : Tried g.S.Store (framed a) e (record { clause = c.args.clause; later = later; call = c.args.call })
-    c.args.rest s t k ks gs store held = record {
-      calls = calls;
+    let tried : Tried g.S.Store (framed a) e c.args.rest s k gs store held = record {
+      ahead = calls.ahead;
+      space = calls.space;
       keeps = on.rest.marks;
       texts = same_texts on.rest.names;
       grows = adds_keeps a e.lists held (adds_same on.nodes) on.frames on.words;
@@ -78,8 +76,7 @@ returns-in-Missed-clause-tried g c = λ s t k ks gs later calls done.
       few = is.few;
       goals = is.own.goals;
     } in
-    missed_engine g.S.Store (framed a) e (record { clause = c.args.clause; later = later; call = c.args.call })
-    c.args.rest s t k ks gs store held c.args.mark tried never
+    missed_engine g.S.Store (framed a) e c.args.rest s t k gs store held c.args.mark tried never
 
 pub returns-in-Missed-clause-costs : goal.returns-in-Missed-clause-costs
 returns-in-Missed-clause-costs g c = λ done.
@@ -100,14 +97,14 @@ returns-in-At-clause-tried g c = λ s t k ks gs later calls done.
     let held = c.enter.new.lists in
     let is = left_clause (g.S.Store.names e.store) e.db calls.clauses c.clause-entered.result.now
     c.clause-entered.ensures in
-    let comes = on.comes k t gs is calls.is_for calls.ahead.chain in
+    let comes = on.comes k t gs is calls.put calls.ahead.chain in
     let b = subst (λ (x : Entered). Comes a (g.S.Store.present e.store) (g.S.Store.present store) t k c.args.mark gs
     held x) c.in-At.is comes in
     let pending = subst (λ (x : Entered). IfAt x (λ (place : Option Rest). pending_at held place
     ≤ 2 * body_size k.body + pending_at e.lists c.args.rest)) c.in-At.is (on.pending k is) in
-    let tried : Tried g.S.Store (framed a) e (record { clause = c.args.clause; later = later; call = c.args.call })
-    c.args.rest s t k ks gs store held = record {
-      calls = calls;
+    let tried : Tried g.S.Store (framed a) e c.args.rest s k gs store held = record {
+      ahead = calls.ahead;
+      space = calls.space;
       keeps = on.rest.marks;
       texts = same_texts on.rest.names;
       grows = adds_keeps a e.lists held (adds_same on.nodes) on.frames on.words;
@@ -115,8 +112,7 @@ returns-in-At-clause-tried g c = λ s t k ks gs later calls done.
       few = is.few;
       goals = is.own.goals;
     } in
-    begun_engine g.S.Store a e (record { clause = c.args.clause; later = later; call = c.args.call }) c.args.rest s t k
-    ks gs store held c.args.mark tried c.in-At.place b pending c.coming-search.result
+    begun_engine g.S.Store a e c.args.rest s t k gs store held c.args.mark tried c.in-At.place b pending c.coming-search.result
     (c.coming-search.ensures.behind
     (clause_members (g.S.Store.present store) b.words c.args.mark k ++ gs) b.list)
 
@@ -169,9 +165,9 @@ returns-in-Last-clause-last g c = λ done.
             let most = clause_cells is.own in
             let behind = ap (λ (v : Vec Frame Global). pending_of v.items rest) alone.1 in
             let pending = last_pending held frames value.own.kept mark rest has alone.2 in
-            let attempt : Attempt KeptCall = record { clause = c.args.clause; later = later; call = c.args.call } in
-            let tried : Tried g.S.Store (framed a) e attempt rest s t k ks gs store (with_frames held frames) = record {
-              calls = calls;
+            let tried : Tried g.S.Store (framed a) e rest s k gs store (with_frames held frames) = record {
+              ahead = calls.ahead;
+              space = calls.space;
               keeps = on.rest.marks;
               texts = same_texts on.rest.names;
               grows =
@@ -181,8 +177,8 @@ returns-in-Last-clause-last g c = λ done.
               few = is.few;
               goals = is.own.goals;
             } in
-            last_engine g.S.Store a e attempt rest s t k ks gs store held mark frames value.own.kept has alone.2 tried
-            (on.last frames k t gs is_last has is calls.is_for calls.ahead.chain)
+            last_engine g.S.Store a e rest s t k gs store held mark frames value.own.kept has alone.2 tried
+            (on.last frames k t gs is_last has is calls.put calls.ahead.chain)
             (omega (arith, most, behind, pending)),
         last_costs g.S.Store a e store held c.args.clause value mark rest stands alone.2 alone.1 few _ r.ahead on.nodes
             on.words,

@@ -14,7 +14,8 @@ use Rattle.iso_frames.proofs.ChainLemmas.{chain_words}
 use Rattle.iso_environments.specs.Entered.{clause_members}
 use Rattle.iso_environments.specs.Met.{HasMet}
 use Rattle.iso_environments.proofs.EnteredLemmas.{body_some, entered_list}
-use Rattle.iso_machine.specs.Lists.{IsList, arguments_at, extent_of, pending_at}
+use Rattle.iso_model.specs.Search.Keys.{key}
+use Rattle.iso_machine.specs.Lists.{IsList, extent_of, pending_at}
 use Rattle.iso_machine.proofs.BodyCells.{clause_cells}
 use Rattle.iso_machine.proofs.EnterLemmas.{at_weaker, call_key, call_named, call_other, comes_at, met_begins, met_environment, never_met}
 use Rattle.iso_machine.specs.Wholes.{whole_chain, whole_list}
@@ -34,11 +35,12 @@ returns-then-not-is_called-clause-comes g c = λ d t ms is calls list.
     let l = c.args.lists.now in
     let p = g.S.Store.present c.args.store.now in
     let names = g.S.Store.names c.args.store.now in
-    let text = text_at names c.args.call.name in
-    let named = call_named a l calls text (g.met.S.Cells.named c.args.store.now c.args.call.name calls.known).1 in
+    let text = text_at names c.args.name in
+    let named = call_named a l calls text (g.met.S.Cells.named c.args.store.now c.args.name calls.known).1 in
     call_other a l calls text named d.head is.head_template.is is.head_template.key.0 is.head_template.key.1
-    (c.is_called.ensures.other d (subst (λ (code : Code). KeepsCode names code d) (sym c.as_ref.ensures) is.own)
-    c.if-not-is_called.true)
+    (λ same. c.is_called.ensures.other d
+    (subst (λ (code : Code). KeepsCode names code d) (sym c.as_ref.ensures) is.own) c.if-not-is_called.true
+    (same ∙ ap (λ (n : ℕ). Some (key text n)) (sym c.len-count.ensures)))
 
 pub returns-then-not-met-clause-comes : goal.returns-then-not-met-clause-comes
 returns-then-not-met-clause-comes g c = λ d t ms is calls list.
@@ -47,16 +49,20 @@ returns-then-not-met-clause-comes g c = λ d t ms is calls list.
     let p = g.S.Store.present c.args.store.now in
     let q = g.S.Store.present c.meet_clause.new.store in
     let names = g.S.Store.names c.args.store.now in
-    let text = text_at names c.args.call.name in
-    let named = call_named a l calls text (g.met.S.Cells.named c.args.store.now c.args.call.name calls.known).1 in
+    let text = text_at names c.args.name in
+    let named = call_named a l calls text (g.met.S.Cells.named c.args.store.now c.args.name calls.known).1 in
     let found = c.is_called.ensures.same d
-    (subst (λ (code : Code). KeepsCode names code d) (sym c.as_ref.ensures) is.own) c.if-not-is_called.false in
+    (subst (λ (code : Code). KeepsCode names code d) (sym c.as_ref.ensures) is.own) c.if-not-is_called.false
+    ∙ ap (λ (n : ℕ). Some (key text n)) c.len-count.ensures in
     let same = call_key a l calls text named d.head found in
     let keeps : KeepsCode names c.as_ref-2.result.now d =
     subst (λ (code : Code). KeepsCode names code d) (sym c.as_ref-2.ensures) is.own in
-    let arguments = arguments_at l c.args.call in
+    let arguments = l.arguments.items in
     let own = drop (length l.words.items) c.meet_clause.new.words.items in
-    let met = c.in_ok-met.ensures.meets calls.name d keeps (head_arity d.head text c.args.call.count found) in
+    let met = subst (λ (ws : List _). HasMet p q calls.name ws (arguments_of (Some d.head)) own c.in_ok-met.met)
+    c.as_slice.ensures
+    (c.in_ok-met.ensures.meets calls.name d keeps
+    (head_arity d.head text (length arguments) found ∙ ap length (sym c.as_slice.ensures))) in
     subst (λ (u : Tree). NeverEqual u (new_head p d.head)) (sym calls.is)
     (never_met p q calls.name arguments d.head is.head_template.is same own
     (subst (λ (b : Bool). HasMet p q calls.name arguments (arguments_of (Some d.head)) own b) c.if-not-met.true met))
@@ -68,19 +74,23 @@ returns-clause-comes g c = λ d t ms is calls list.
     let p = g.S.Store.present c.args.store.now in
     let q = g.S.Store.present c.meet_clause.new.store in
     let names = g.S.Store.names c.args.store.now in
-    let text = text_at names c.args.call.name in
-    let named = call_named a l calls text (g.met.S.Cells.named c.args.store.now c.args.call.name calls.known).1 in
+    let text = text_at names c.args.name in
+    let named = call_named a l calls text (g.met.S.Cells.named c.args.store.now c.args.name calls.known).1 in
     let found = c.is_called.ensures.same d
-    (subst (λ (code : Code). KeepsCode names code d) (sym c.as_ref.ensures) is.own) c.if-not-is_called.false in
+    (subst (λ (code : Code). KeepsCode names code d) (sym c.as_ref.ensures) is.own) c.if-not-is_called.false
+    ∙ ap (λ (n : ℕ). Some (key text n)) c.len-count.ensures in
     let same = call_key a l calls text named d.head found in
     let keeps : KeepsCode names c.as_ref-2.result.now d =
     subst (λ (code : Code). KeepsCode names code d) (sym c.as_ref-2.ensures) is.own in
-    let arguments = arguments_at l c.args.call in
+    let arguments = l.arguments.items in
     let old = l.words.items in
     let new = c.meet_clause.new.words.items in
     let own = drop (length old) new in
     let ts = arguments_of (Some d.head) in
-    let met = c.in_ok-met.ensures.meets calls.name d keeps (head_arity d.head text c.args.call.count found) in
+    let met = subst (λ (ws : List _). HasMet p q calls.name ws (arguments_of (Some d.head)) own c.in_ok-met.met)
+    c.as_slice.ensures
+    (c.in_ok-met.ensures.meets calls.name d keeps
+    (head_arity d.head text (length arguments) found ∙ ap length (sym c.as_slice.ensures))) in
     let h : HasMet p q calls.name arguments ts own true =
     subst (λ (b : Bool). HasMet p q calls.name arguments ts own b) c.if-not-met.false met in
     let kept = ap (λ (code : Code). code.variables) c.as_ref-2.ensures in
@@ -118,24 +128,29 @@ returns-clause-pending g c = λ d is.
 
 pub returns-clause-last : goal.returns-clause-last
 returns-clause-last g c = λ fs d t ms done framed is calls list.
+    let last : c.in_ok-begin.field-0 ≡ entered.Last = cc done in
     let a = g.S.Cells.atom_word in
     let l = c.args.lists.now in
     let p = g.S.Store.present c.args.store.now in
     let q = g.S.Store.present c.meet_clause.new.store in
     let names = g.S.Store.names c.args.store.now in
-    let text = text_at names c.args.call.name in
-    let named = call_named a l calls text (g.met.S.Cells.named c.args.store.now c.args.call.name calls.known).1 in
+    let text = text_at names c.args.name in
+    let named = call_named a l calls text (g.met.S.Cells.named c.args.store.now c.args.name calls.known).1 in
     let found = c.is_called.ensures.same d
-    (subst (λ (code : Code). KeepsCode names code d) (sym c.as_ref.ensures) is.own) c.if-not-is_called.false in
+    (subst (λ (code : Code). KeepsCode names code d) (sym c.as_ref.ensures) is.own) c.if-not-is_called.false
+    ∙ ap (λ (n : ℕ). Some (key text n)) c.len-count.ensures in
     let same = call_key a l calls text named d.head found in
     let keeps : KeepsCode names c.as_ref-2.result.now d =
     subst (λ (code : Code). KeepsCode names code d) (sym c.as_ref-2.ensures) is.own in
-    let arguments = arguments_at l c.args.call in
+    let arguments = l.arguments.items in
     let old = l.words.items in
     let new = c.meet_clause.new.words.items in
     let own = drop (length old) new in
     let ts = arguments_of (Some d.head) in
-    let met = c.in_ok-met.ensures.meets calls.name d keeps (head_arity d.head text c.args.call.count found) in
+    let met = subst (λ (ws : List _). HasMet p q calls.name ws (arguments_of (Some d.head)) own c.in_ok-met.met)
+    c.as_slice.ensures
+    (c.in_ok-met.ensures.meets calls.name d keeps
+    (head_arity d.head text (length arguments) found ∙ ap length (sym c.as_slice.ensures))) in
     let h : HasMet p q calls.name arguments ts own true =
     subst (λ (b : Bool). HasMet p q calls.name arguments ts own b) c.if-not-met.false met in
     let kept = ap (λ (code : Code). code.variables) c.as_ref-2.ensures in
@@ -152,7 +167,6 @@ returns-clause-last g c = λ fs d t ms done framed is calls list.
     (λ n holds. (g.met.S.Cells.named c.meet_clause.new.store n holds).1
     ∙ ap (λ (ns : List (List ℕ)). Name (text_at ns n)) same_names) in
     let chain = chain_words a h.keeps (whole_chain a l list) in
-    let last : c.in_ok-begin.field-0 ≡ entered.Last = cc done in
     let met_lists : Framed _ _ _ = with_frames (record l {
       words = c.meet_clause.new.words;
       compounds = c.meet_clause.new.compounds;

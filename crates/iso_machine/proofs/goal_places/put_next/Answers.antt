@@ -65,8 +65,8 @@ slice_bounds-environment-end g c =
     let same = ap length c.as_slice-2.ensures in
     omega (arith, within, low, same)
 
-pub put_arguments-requires-clause-blocks : goal.put_arguments-requires-clause-blocks
-put_arguments-requires-clause-blocks g c =
+pub put_words-requires-clause-blocks : goal.put_words-requires-clause-blocks
+put_words-requires-clause-blocks g c =
     let e = c.args.search.now in
     let count : c.len.result ≡ length e.lists.words.items = c.len.ensures in
     let at = c.code_at-at.result in
@@ -76,8 +76,8 @@ put_arguments-requires-clause-blocks g c =
     (at_code g.S.Store g.S.Cells.atom_word (with_frame e c.requires.0 c.requires.1) c.requires.1 refl c.requires.4) in
     rw c.as_slice-2.ensures (put_blocks h (g.S.Store.names e.store) (g.met.S.Cells.named e.store))
 
-pub put_arguments-requires-clause-compounds : goal.put_arguments-requires-clause-compounds
-put_arguments-requires-clause-compounds g c =
+pub put_words-requires-clause-compounds : goal.put_words-requires-clause-compounds
+put_words-requires-clause-compounds g c =
     let e = c.args.search.now in
     let count : c.len.result ≡ length e.lists.words.items = c.len.ensures in
     let at = c.code_at-at.result in
@@ -87,8 +87,8 @@ put_arguments-requires-clause-compounds g c =
     (at_code g.S.Store g.S.Cells.atom_word (with_frame e c.requires.0 c.requires.1) c.requires.1 refl c.requires.4) in
     (put_compounds h (g.S.Store.names e.store) (g.met.S.Cells.named e.store))
 
-pub put_arguments-requires-clause-inside : goal.put_arguments-requires-clause-inside
-put_arguments-requires-clause-inside g c =
+pub put_words-requires-clause-inside : goal.put_words-requires-clause-inside
+put_words-requires-clause-inside g c =
     let e = c.args.search.now in
     let count : c.len.result ≡ length e.lists.words.items = c.len.ensures in
     let at = c.code_at-at.result in
@@ -98,8 +98,8 @@ put_arguments-requires-clause-inside g c =
     (at_code g.S.Store g.S.Cells.atom_word (with_frame e c.requires.0 c.requires.1) c.requires.1 refl c.requires.4) in
     rw c.as_slice-2.ensures (put_inside h (g.S.Store.names e.store) (g.met.S.Cells.named e.store))
 
-pub put_arguments-requires-clause-held : goal.put_arguments-requires-clause-held
-put_arguments-requires-clause-held g c =
+pub put_words-requires-clause-held : goal.put_words-requires-clause-held
+put_words-requires-clause-held g c =
     let e = c.args.search.now in
     let count : c.len.result ≡ length e.lists.words.items = c.len.ensures in
     let at = c.code_at-at.result in
@@ -109,8 +109,8 @@ put_arguments-requires-clause-held g c =
     (at_code g.S.Store g.S.Cells.atom_word (with_frame e c.requires.0 c.requires.1) c.requires.1 refl c.requires.4) in
     rw c.as_slice-2.ensures (put_held h (g.S.Store.names e.store) (g.met.S.Cells.named e.store))
 
-pub returns-in_err-put_arguments-clause-stopped : goal.returns-in_err-put_arguments-clause-stopped
-returns-in_err-put_arguments-clause-stopped g c = λ fs r s there stands.
+pub returns-in_err-put_words-clause-stopped : goal.returns-in_err-put_words-clause-stopped
+returns-in_err-put_words-clause-stopped g c = λ fs r s there stands.
     let e = c.args.search.now in
     let count : c.len.result ≡ length e.lists.words.items = c.len.ensures in
     let at = c.code_at-at.result in
@@ -118,10 +118,10 @@ returns-in_err-put_arguments-clause-stopped g c = λ fs r s there stands.
     let goal_is = c.called_at-behind.result in
     let goes = c.called_at-behind.ensures in
     behind_error c.from_residual.result
-    (next_refused g.S.Store g.S.Cells.atom_word e fs r c.put_arguments.new.store c.put_arguments.new.compounds
-    c.put_arguments.new.arguments c.put_arguments.new.words goal_is.0.now
+    (next_refused g.S.Store g.S.Cells.atom_word e fs r c.put_words.new.store c.put_words.new.compounds
+    c.put_words.new.words c.put_words.new.made goal_is.0.now
     (next_there g.S.Store g.S.Cells.atom_word e fs r c.args.place there c.len.result count at.code.now at.rest at.top at.behind read goal_is.0.now goal_is.1 goes)
-    c.put_arguments.ensures.rest c.put_arguments.ensures.cells c.args.place there s stands
+    c.put_words.ensures.rest c.put_words.ensures.cells c.args.place there s stands
     (goal_room (next_read g.S.Store g.S.Cells.atom_word e fs r c.args.place there c.len.result count at.code.now at.rest at.top at.behind read goal_is.0.now goal_is.1 goes _
     (at_code g.S.Store g.S.Cells.atom_word (with_frame e fs r) r refl stands))))
 
@@ -133,13 +133,13 @@ returns-clause-put g c = λ fs r s there stands.
     let read = rw c.as_slice.ensures.value at c.code_at-at.ensures in
     let goal_is = c.called_at-behind.result in
     let goes = c.called_at-behind.ensures in
-    let on = c.in_ok-put_arguments.ensures in
-    let new = c.put_arguments.new in
-    next_put g.S.Store g.S.Cells.atom_word e fs r new.store new.compounds new.arguments new.words goal_is.0.now
+    let on = c.in_ok-put_words.ensures in
+    let new = c.put_words.new in
+    next_put g.S.Store g.S.Cells.atom_word e fs r new.store new.compounds new.words new.made goal_is.0.now
     (next_there g.S.Store g.S.Cells.atom_word e fs r c.args.place there c.len.result count at.code.now at.rest at.top at.behind read goal_is.0.now goal_is.1 goes)
     on.rest on.cells c.args.place there (Ok (record { name = goal_is.0.now.name; behind = goal_is.1 })) on.adds
     (λ all list. has_put (next_read g.S.Store g.S.Cells.atom_word e fs r c.args.place there c.len.result count at.code.now at.rest at.top at.behind read goal_is.0.now goal_is.1 goes all list) (g.S.Store.names e.store)
-    (g.met.S.Cells.named e.store) new.arguments.items (rw c.as_slice-2.ensures at on.puts) on.adds.words)
-    (λ all list. goal_behind (next_read g.S.Store g.S.Cells.atom_word e fs r c.args.place there c.len.result count at.code.now at.rest at.top at.behind read goal_is.0.now goal_is.1 goes all list) (length new.arguments.items)
+    (g.met.S.Cells.named e.store) new.words.items (rw c.as_slice-2.ensures at on.puts) on.adds.words)
+    (λ all list. goal_behind (next_read g.S.Store g.S.Cells.atom_word e fs r c.args.place there c.len.result count at.code.now at.rest at.top at.behind read goal_is.0.now goal_is.1 goes all list) (length new.words.items)
     on.puts.many)
     (next_ends g.S.Store g.S.Cells.atom_word e fs r c.args.place there c.len.result count at.code.now at.rest at.top at.behind read goal_is.0.now goal_is.1 goes) s stands

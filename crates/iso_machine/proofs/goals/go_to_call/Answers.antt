@@ -1,6 +1,4 @@
-use Rattle.std.proofs.Common.{◌≡◌, ◌∙◌, None, ap, subst, arith}
-use Rattle.iso_search_core.specs.declared.nows.Now.TheVariants as now
-use Rattle.iso_frames.specs.declared.frames.Next.TheVariants as next
+use Rattle.std.proofs.Common.{None, subst, arith}
 use Rattle.iso_environments.specs.Answering.{IsArithmeticThere}
 use Rattle.iso_environments.specs.Putting.{IsCallThere}
 use Rattle.iso_instructions.specs.declared.instructions.Instruction.TheVariants as instruction
@@ -8,87 +6,79 @@ use Rattle.iso_machine.specs.Instructions.{IsInstructionThere}
 use Rattle.iso_machine.proofs.FirstGoals.{code_stops}
 use Rattle.iso_machine.proofs.Moves.Went.{behind_more, behind_none, came_moved, refused_behind, went_not}
 use Rattle.iso_machine.proofs.goals.go_to_call.Goals as goal
-use Rattle.iso_machine.proofs.goals.go_to_call.Goals.{In-Code}
 
--- the code that comes first
-doing : (g : _) (c : In-Code g) → c.loop-search.search.now ≡ now.Running (next.Code c.in-Code.rest)
-doing g c = c.in-Running.is ∙ ap now.Running c.in-Code.is
-
-pub loop-search-init : goal.loop-search-init
-loop-search-init g c = behind_none g.S.Store g.S.Cells.atom_word c.args.search.now c.requires.0 c.requires.1
+pub loop-rest-init : goal.loop-rest-init
+loop-rest-init g c = behind_none g.S.Store g.S.Cells.atom_word c.args.search.now c.requires.0 c.requires.1
 
 pub returns-in_default-clause-came : goal.returns-in_default-clause-came
-returns-in_default-clause-came g c = λ old first. c.loop-search.invariant.behind old first
-
-pub returns-in_default-first-clause-came : goal.returns-in_default-first-clause-came
-returns-in_default-first-clause-came g c = λ old first. c.loop-search.invariant.behind old first
+returns-in_default-clause-came g c = λ old first. c.loop-rest.invariant.behind old first
 
 pub act_there-requires : goal.act_there-requires
 act_there-requires g c =
-    let h = c.loop-search.invariant in
-    rw c.as_slice.ensures.value (code_stops g.S.Store g.S.Cells.atom_word c.loop-search.search c.in-Code.rest
-    (doing g (goal.at.act_there-requires g c).In-Code) h.state h.stands)
+    let h = c.loop-rest.invariant in
+    rw c.as_slice.ensures.value (code_stops g.S.Store g.S.Cells.atom_word c.loop-rest.search c.in-Some.rest
+    c.in-Some.ensures h.state h.stands)
 
 pub returns-in-Calls-clause-came : goal.returns-in-Calls-clause-came
-returns-in-Calls-clause-came g c = λ old first. c.loop-search.invariant.behind old first
+returns-in-Calls-clause-came g c = λ old first. c.loop-rest.invariant.behind old first
 
 pub returns-in-Calls-clause-there : goal.returns-in-Calls-clause-there
 returns-in-Calls-clause-there g c = (
-  doing g (goal.at.returns-in-Calls-clause-there g c).In-Code,
-  subst (λ fs. IsCallThere fs c.in-Code.rest) c.as_slice.ensures.value c.in-Calls.ensures,
+  c.in-Some.ensures,
+  subst (λ fs. IsCallThere fs c.in-Some.rest) c.as_slice.ensures.value c.in-Calls.ensures,
 )
 
 pub compute-requires-clause-now : goal.compute-requires-clause-now
-compute-requires-clause-now g c = doing g (goal.at.compute-requires-clause-now g c).In-Code
+compute-requires-clause-now g c = c.in-Some.ensures
 
 pub compute-requires-clause-there : goal.compute-requires-clause-there
 compute-requires-clause-there g c =
-    subst (λ fs. IsArithmeticThere fs c.in-Code.rest) c.as_slice.ensures.value c.in-Computes.ensures
+    subst (λ fs. IsArithmeticThere fs c.in-Some.rest) c.as_slice.ensures.value c.in-Computes.ensures
 
 pub compute-requires-clause-more : goal.compute-requires-clause-more
 compute-requires-clause-more g c = λ none. absurd (omega (arith, c.if-search-ne0.true, none))
 
 pub compute-requires-clause-stands : goal.compute-requires-clause-stands
-compute-requires-clause-stands g c = (let h = c.loop-search.invariant in (h.state, h.stands))
+compute-requires-clause-stands g c = (let h = c.loop-rest.invariant in (h.state, h.stands))
 
 pub returns-in_err-compute-in-Computes-clause-came : goal.returns-in_err-compute-in-Computes-clause-came
 returns-in_err-compute-in-Computes-clause-came g c = λ old first.
     went_not g.S.Store g.S.Cells.atom_word c.from_residual.result _ c.from_residual.ensures.0
     c.from_residual.ensures.1
-    (refused_behind g.S.Store g.S.Cells.atom_word _ (c.loop-search.invariant.behind old first)
+    (refused_behind g.S.Store g.S.Cells.atom_word _ (c.loop-rest.invariant.behind old first)
     c.in_err-compute-in-Computes.ensures.came)
 
-pub loop-search-smaller-then-search-ne0 : goal.loop-search-smaller-then-search-ne0
-loop-search-smaller-then-search-ne0 g c = (c.in_ok-compute-in-Computes.ensures.came None).falls
+pub loop-rest-smaller-then-search-ne0 : goal.loop-rest-smaller-then-search-ne0
+loop-rest-smaller-then-search-ne0 g c = (c.in_ok-compute-in-Computes.ensures.came None).falls
 
-pub loop-search-preserved-then-search-ne0 : goal.loop-search-preserved-then-search-ne0
-loop-search-preserved-then-search-ne0 g c =
+pub loop-rest-preserved-then-search-ne0 : goal.loop-rest-preserved-then-search-ne0
+loop-rest-preserved-then-search-ne0 g c =
     let fewer = c.in_ok-compute-in-Computes.ensures.steps in
-    behind_more g.S.Store g.S.Cells.atom_word c.loop-search.invariant c.in_ok-compute-in-Computes.ensures.came
+    behind_more g.S.Store g.S.Cells.atom_word c.loop-rest.invariant c.in_ok-compute-in-Computes.ensures.came
     (omega (arith, fewer))
 
 pub cut_back-requires-clause-now : goal.cut_back-requires-clause-now
-cut_back-requires-clause-now g c = doing g (goal.at.cut_back-requires-clause-now g c).In-Code
+cut_back-requires-clause-now g c = c.in-Some.ensures
 
 pub cut_back-requires-clause-there : goal.cut_back-requires-clause-there
 cut_back-requires-clause-there g c =
-    subst (λ fs. IsInstructionThere fs c.in-Code.rest (instruction.Cut c.in-Cuts.mark)) c.as_slice.ensures.value
+    subst (λ fs. IsInstructionThere fs c.in-Some.rest (instruction.Cut c.in-Cuts.mark)) c.as_slice.ensures.value
     c.in-Cuts.ensures
 
 pub cut_back-requires-clause-stands : goal.cut_back-requires-clause-stands
-cut_back-requires-clause-stands g c = (let h = c.loop-search.invariant in (h.state, h.stands))
+cut_back-requires-clause-stands g c = (let h = c.loop-rest.invariant in (h.state, h.stands))
 
-pub loop-search-smaller : goal.loop-search-smaller
-loop-search-smaller g c = c.cut_back.ensures.moved.falls
+pub loop-rest-smaller : goal.loop-rest-smaller
+loop-rest-smaller g c = c.cut_back.ensures.moved.falls
 
-pub loop-search-preserved : goal.loop-search-preserved
-loop-search-preserved g c =
+pub loop-rest-preserved : goal.loop-rest-preserved
+loop-rest-preserved g c =
     let same = c.cut_back.ensures.steps in
-    behind_more g.S.Store g.S.Cells.atom_word c.loop-search.invariant
+    behind_more g.S.Store g.S.Cells.atom_word c.loop-rest.invariant
     (came_moved g.S.Store g.S.Cells.atom_word c.cut_back.ensures.moved) (omega (arith, same))
 
 pub returns-in_default-act_there-clause-came : goal.returns-in_default-act_there-clause-came
-returns-in_default-act_there-clause-came g c = λ old first. c.loop-search.invariant.behind old first
+returns-in_default-act_there-clause-came g c = λ old first. c.loop-rest.invariant.behind old first
 
 pub returns-in_default-act_there-2-clause-came : goal.returns-in_default-act_there-2-clause-came
-returns-in_default-act_there-2-clause-came g c = λ old first. c.loop-search.invariant.behind old first
+returns-in_default-act_there-2-clause-came g c = λ old first. c.loop-rest.invariant.behind old first

@@ -10,10 +10,10 @@ name_of-name-requires-clause-named g c =
     let calls = c.requires.calls r.own.world r.engine.world in
     (calls.key, calls.user.named)
 
-pub returns-in_err-read_arguments : goal.returns-in_err-read_arguments
-returns-in_err-read_arguments g c = λ asked.
+pub returns-in_err-read_goal : goal.returns-in_err-read_goal
+returns-in_err-read_goal g c = λ asked.
     came_not g.S.Store g.S.Cells.atom_word c.from_residual.result c.from_residual.ensures.0
-    (λ s r. word_refused g.S.Store g.S.Cells.atom_word c.args.search.now c.read_arguments.new.words s r)
+    (λ s r. word_refused g.S.Store g.S.Cells.atom_word c.args.search.now c.read_goal.new.arguments c.read_goal.new.made s r)
     (full_behind c.from_residual.result fault.NoMemory c.from_residual.ensures.1 (λ is. absurd cc))
     (record { limit = refl; vocabulary = refl; names_kept = λ place text h. h; base = λ p h. h; within = λ h. h })
 
@@ -22,9 +22,10 @@ go-requires g c = (
   c.args.search.now,
   c.requires.stands.0,
   c.requires.stands.1,
-  word_called g.S.Store g.S.Cells.atom_word c.args.search.now c.args.goal c.args.behind c.read_arguments.new.words
-      c.name_of-name.result c.args.clause c.args.later.now c.requires.first c.in_ok-read_arguments.ensures.arguments
-      c.in_ok-read_arguments.ensures.term c.name_of-name.ensures.atom c.name_of-name.ensures.name c.requires.more
+  word_called g.S.Store g.S.Cells.atom_word c.args.search.now c.args.goal c.args.behind c.read_goal.new.arguments
+      c.read_goal.new.made
+      c.name_of-name.result c.args.clause c.args.later.now c.requires.first c.in_ok-read_goal.ensures.arguments
+      c.in_ok-read_goal.ensures.term c.name_of-name.ensures.atom c.name_of-name.ensures.name c.requires.more
       c.requires.calls,
 )
 
@@ -33,23 +34,26 @@ returns-in_err-go g c = λ asked.
     came_same g.S.Store g.S.Cells.atom_word c.from_residual-in_err-go.result _ c.from_residual-in_err-go.ensures.0
     c.from_residual-in_err-go.ensures.1
     (c.in_err-go.ensures.came c.args.search.now
-    (word_called g.S.Store g.S.Cells.atom_word c.args.search.now c.args.goal c.args.behind c.read_arguments.new.words
-    c.name_of-name.result c.args.clause c.args.later.now c.requires.first c.in_ok-read_arguments.ensures.arguments
-    c.in_ok-read_arguments.ensures.term c.name_of-name.ensures.atom c.name_of-name.ensures.name c.requires.more
+    (word_called g.S.Store g.S.Cells.atom_word c.args.search.now c.args.goal c.args.behind c.read_goal.new.arguments
+    c.read_goal.new.made
+    c.name_of-name.result c.args.clause c.args.later.now c.requires.first c.in_ok-read_goal.ensures.arguments
+    c.in_ok-read_goal.ensures.term c.name_of-name.ensures.atom c.name_of-name.ensures.name c.requires.more
     c.requires.calls))
 
 pub returns-in-Went : goal.returns-in-Went
 returns-in-Went g c =
     rw c.in-Went.is at (c.in_ok-go.ensures.came c.args.search.now
-    (word_called g.S.Store g.S.Cells.atom_word c.args.search.now c.args.goal c.args.behind c.read_arguments.new.words
-    c.name_of-name.result c.args.clause c.args.later.now c.requires.first c.in_ok-read_arguments.ensures.arguments
-    c.in_ok-read_arguments.ensures.term c.name_of-name.ensures.atom c.name_of-name.ensures.name c.requires.more
+    (word_called g.S.Store g.S.Cells.atom_word c.args.search.now c.args.goal c.args.behind c.read_goal.new.arguments
+    c.read_goal.new.made
+    c.name_of-name.result c.args.clause c.args.later.now c.requires.first c.in_ok-read_goal.ensures.arguments
+    c.in_ok-read_goal.ensures.term c.name_of-name.ensures.atom c.name_of-name.ensures.name c.requires.more
     c.requires.calls))
 
 pub returns-in-Full : goal.returns-in-Full
 returns-in-Full g c =
     rw c.in-Full.is at (c.in_ok-go.ensures.came c.args.search.now
-    (word_called g.S.Store g.S.Cells.atom_word c.args.search.now c.args.goal c.args.behind c.read_arguments.new.words
-    c.name_of-name.result c.args.clause c.args.later.now c.requires.first c.in_ok-read_arguments.ensures.arguments
-    c.in_ok-read_arguments.ensures.term c.name_of-name.ensures.atom c.name_of-name.ensures.name c.requires.more
+    (word_called g.S.Store g.S.Cells.atom_word c.args.search.now c.args.goal c.args.behind c.read_goal.new.arguments
+    c.read_goal.new.made
+    c.name_of-name.result c.args.clause c.args.later.now c.requires.first c.in_ok-read_goal.ensures.arguments
+    c.in_ok-read_goal.ensures.term c.name_of-name.ensures.atom c.name_of-name.ensures.name c.requires.more
     c.requires.calls))

@@ -1,4 +1,4 @@
-use Rattle.std.proofs.Common.{◌≡◌, ◌∙◌, ℕ, Some, length, map, ap, arith}
+use Rattle.std.proofs.Common.{◌≡◌, ◌∙◌, ℕ, Some, length, map, ap, sym}
 use Rattle.std.proofs.lemmas.List.{length-map}
 use Rattle.iso_atoms.specs.Texts.{text_at}
 use Rattle.iso_model.specs.Search.Keys.{key}
@@ -16,12 +16,10 @@ returns g c = λ w is.
     let p = g.S.Store.present e.store in
     let text = text_at (g.S.Store.names e.store) c.args.name in
     let ws = e.lists.arguments.items in
-    let many = length-map ws (meaning p) in
-    let long = e.lists.arguments.ok.0 in
-    let count = c.len.ensures in
-    let same : length (map (meaning p) ws) ≡ c.len.result = omega (arith, many, long, count) in
+    let same : length (map (meaning p) ws) ≡ c.len.result = length-map ws (meaning p) ∙ sym c.len.ensures in
     let named = goal_key text (map (meaning p) ws) ∙ ap (λ (n : ℕ). Some (key text n)) same in
     named_calls (own_of (framed g.S.Cells.atom_word)) (g.S.Store.names e.store) e.db c.named.new.later w
     (goal_put g.S.Store g.S.Cells.atom_word e c.args.name) (key text c.len.result) c.named.result named
     (c.named.ensures w (goal_put g.S.Store g.S.Cells.atom_word e c.args.name) is
-    (goal_first p ws c.index-first.result.now text c.requires.some c.index-first.ensures))
+    (goal_first p ws c.index-as_slice-0.result text c.requires.some
+    (rw c.as_slice.ensures at c.index-as_slice-0.is)))

@@ -1,57 +1,48 @@
 use Rattle.std.proofs.Common.{Ok, Err, ap}
-use Rattle.iso_store_core.specs.declared.shapes.StoreFault.TheVariants as fault
 use Rattle.iso_search.proofs.LimitLemmas.{stays_next, stays_on}
 use Rattle.iso_machine.proofs.CameLemmas.{came_error, last_error}
 use Rattle.iso_machine.specs.LastCalls.{with_frame}
 use Rattle.iso_machine.proofs.Moves.Last.{stays_framed}
-use Rattle.iso_machine.proofs.Moves.Go.{go_behind, go_calls, go_falls, go_full, go_refused, go_went, ready_refused}
+use Rattle.iso_machine.proofs.Moves.Go.{go_behind, go_calls, go_falls, go_full, go_refused, go_went}
 use Rattle.iso_machine.proofs.putting.go.Goals as goal
 
 pub make_ready-requires-clause-stands : goal.make_ready-requires-clause-stands
 make_ready-requires-clause-stands g c =
     go_behind g.S.Store g.S.Cells.atom_word c.requires.3 c.requires.1 c.requires.2
 
-pub returns-in_err-kept-clause-came : goal.returns-in_err-kept-clause-came
-returns-in_err-kept-clause-came g c = λ old h.
-    last_error g.S.Store g.S.Cells.atom_word _ _ c.from_residual.result fault.NoMemory c.from_residual.ensures.0
-    c.from_residual.ensures.1
-    (came_error g.S.Store g.S.Cells.atom_word fault.NoMemory
-    (λ s r. ready_refused g.S.Store g.S.Cells.atom_word h c.in_err-kept.ensures.ahead s r) (λ is. absurd (cc))
-    (stays_on g.S.Store h.put.stays c.in_err-kept.ensures.stays))
-
 pub call-requires : goal.call-requires
 call-requires g c =
-    let ready = c.in_ok-kept.ensures in (
+    let ready = c.make_ready.ensures in (
       _,
       _,
       _,
       _,
       _,
       go_calls g.S.Store g.S.Cells.atom_word c.requires.3 ready.ahead c.requires.1 c.requires.2
-          c.in_ok-kept.kept ready.is_for ready.steps ready.names ready.clauses,
+          ready.put ready.steps ready.names ready.clauses,
     )
 
 pub returns-in_err-call-clause-came : goal.returns-in_err-call-clause-came
 returns-in_err-call-clause-came g c = λ old h.
-    let ready = c.in_ok-kept.ensures in
-    last_error g.S.Store g.S.Cells.atom_word _ _ c.from_residual-in_err-call.result _ c.from_residual-in_err-call.ensures.0
-    c.from_residual-in_err-call.ensures.1
+    let ready = c.make_ready.ensures in
+    last_error g.S.Store g.S.Cells.atom_word _ _ c.from_residual.result _ c.from_residual.ensures.0
+    c.from_residual.ensures.1
     (came_error g.S.Store g.S.Cells.atom_word _
     (λ s r. go_refused g.S.Store g.S.Cells.atom_word h ready.ahead s r c.call.new.search
-    (c.in_err-call.ensures.kept _ _ _ _ _ (go_calls g.S.Store g.S.Cells.atom_word h ready.ahead s r c.in_ok-kept.kept
-    ready.is_for ready.steps ready.names ready.clauses)))
+    (c.in_err-call.ensures.kept _ _ _ _ _ (go_calls g.S.Store g.S.Cells.atom_word h ready.ahead s r ready.put
+    ready.steps ready.names ready.clauses)))
     (λ is. c.in_err-call.ensures.heap (ap Err is))
     (stays_on g.S.Store h.put.stays (stays_on g.S.Store ready.stays c.in_err-call.ensures.stays)))
 
 pub returns-in-Went-clause-came : goal.returns-in-Went-clause-came
 returns-in-Went-clause-came g c = λ old h.
-    let ready = c.in_ok-kept.ensures in
+    let ready = c.make_ready.ensures in
     let called = c.in_ok-call.ensures in
     let went = ap Ok c.in-Went.is in
     λ asked. record {
       next = λ s r. go_went g.S.Store g.S.Cells.atom_word h ready.ahead s r c.call.new.search
-          (called.tried _ _ _ _ _ (go_calls g.S.Store g.S.Cells.atom_word h ready.ahead s r c.in_ok-kept.kept
-          ready.is_for ready.steps ready.names ready.clauses) went) (called.awake went);
+          (called.tried _ _ _ _ _ (go_calls g.S.Store g.S.Cells.atom_word h ready.ahead s r ready.put
+          ready.steps ready.names ready.clauses) went) (called.awake went);
       stopped = λ s r. tt;
       falls =
           go_falls g.S.Store g.S.Cells.atom_word h c.make_ready.new.search c.call.new.search ready.steps ready.costs
@@ -62,7 +53,7 @@ returns-in-Went-clause-came g c = λ old h.
 
 pub returns-in-Full-clause-came : goal.returns-in-Full-clause-came
 returns-in-Full-clause-came g c = λ old h.
-    let ready = c.in_ok-kept.ensures in
+    let ready = c.make_ready.ensures in
     let called = c.in_ok-call.ensures in
     let full = ap Ok c.in-Full.is in
     λ asked. record {
@@ -76,7 +67,7 @@ returns-in-Full-clause-came g c = λ old h.
 
 pub returns-in-Last-clause-came : goal.returns-in-Last-clause-came
 returns-in-Last-clause-came g c = λ old h.
-    let ready = c.in_ok-kept.ensures in
+    let ready = c.make_ready.ensures in
     let called = c.in_ok-call.ensures in
     let entered = called.last (ap Ok c.in-Last.is) in
     let with = with_frame c.call.new.search entered.frames entered.rest in
@@ -86,8 +77,8 @@ returns-in-Last-clause-came g c = λ old h.
       unframed = entered.unframed;
       says = λ asked. record {
         next = λ s r. go_went g.S.Store g.S.Cells.atom_word h ready.ahead s r with
-            (entered.says.0 _ _ _ _ _ (go_calls g.S.Store g.S.Cells.atom_word h ready.ahead s r c.in_ok-kept.kept
-            ready.is_for ready.steps ready.names ready.clauses)) tt;
+            (entered.says.0 _ _ _ _ _ (go_calls g.S.Store g.S.Cells.atom_word h ready.ahead s r ready.put
+            ready.steps ready.names ready.clauses)) tt;
         stopped = λ s r. tt;
         falls =
             go_falls g.S.Store g.S.Cells.atom_word h c.make_ready.new.search with ready.steps ready.costs ready.behind

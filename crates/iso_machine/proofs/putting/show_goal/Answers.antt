@@ -13,7 +13,7 @@ returns-in_err-goal-clause-stopped g c = λ old s put r.
     (show_refused g.S.Store g.S.Cells.atom_word put
     (store_grown g.S.Store (framed g.S.Cells.atom_word) e c.make_goal.new.store
     (compound_cells (length e.lists.arguments.items)) c.make_goal.ensures.rest
-    (rw c.as_slice.ensures.value at c.make_goal.ensures.cells)) s r)
+    (rw c.as_slice.ensures at c.make_goal.ensures.cells)) s r)
 
 pub returns-clause-shown : goal.returns-clause-shown
 returns-clause-shown g c = λ old put.
@@ -21,5 +21,5 @@ returns-clause-shown g c = λ old put.
     shown g.S.Store g.S.Cells.atom_word put
     (store_grown g.S.Store (framed g.S.Cells.atom_word) e c.make_goal.new.store
     (compound_cells (length e.lists.arguments.items)) c.make_goal.ensures.rest
-    (rw c.as_slice.ensures.value at c.make_goal.ensures.cells)) c.in_ok-goal.goal
-    (rw c.as_slice.ensures.value at c.in_ok-goal.ensures.made) c.in_ok-goal.ensures.numbers
+    (rw c.as_slice.ensures at c.make_goal.ensures.cells)) c.in_ok-goal.goal
+    (rw c.as_slice.ensures at c.in_ok-goal.ensures.made) c.in_ok-goal.ensures.numbers
