@@ -67,6 +67,7 @@ pub struct Choice<W, M, K, P, C> {
 
 /// Appends a choice at which this is left to be tried, with a mark of the store as it is. The error is that memory was
 /// refused.
+#[inline(always)]
 pub fn keep_choice<S: Store, K: Copy, P: Copy, C: Copy>(
     store: &mut S,
     choices: &mut Vec<Choice<S::Word, S::Mark, K, P, C>>,
