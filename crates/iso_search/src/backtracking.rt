@@ -25,6 +25,7 @@ impl<S: Store + Drop, L: Lists<S>> Search<S, L> {
     ghost use Rattle.iso_search_core.specs.declared.choices.Left.TheVariants as left;
 
     /// Goes back to the newest choice, which stays: the store and the lists are as they were when it was made (7.7.8).
+    #[inline(always)]
     pub fn go_back(&mut self) -> Newest<S::Mark, L::Place>
         requires some { 0 < length self.old.choices.items }
         requires failing { (s : State) × IsEngine S.Store L.Lists self.old s }

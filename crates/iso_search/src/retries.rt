@@ -99,6 +99,7 @@ impl<S: Store + Drop, L: Lists<S>> Search<S, L> {
 
     /// Leaves the newest choice at its next clause, or takes it away where this is its last one; how many stand below
     /// it.
+    #[inline(always)]
     pub fn leave_choice(&mut self, mark: S::Mark) -> usize
         requires some { 0 < length self.old.choices.items }
         requires back { (attempt : Attempt L.Call) × (c : kept.Choice S.Word S.Mark L.Kept L.Place L.Call) × (s : State)
