@@ -1,6 +1,6 @@
 //! The contract that a machine's instructions stand on.
 ghost use Rattle.std.specs.Prelude.{◌≡◌, ℕ, List, [], ◌∷◌, ◌++◌, ◌+◌, ◌<◌, ◌≤◌, IfOk, OnOk, length, true, false};
-ghost use Rattle.iso_atoms.specs.Texts.{text_at};
+ghost use Rattle.iso_atoms.specs.Texts.{EachOnce, text_at};
 ghost use Rattle.iso_model.specs.Terms.Integers.{is_short};
 ghost use Rattle.iso_model.specs.Terms.Trees.{Tree, Integer, Name, Apply, Variable, row};
 ghost use Rattle.iso_model.specs.Terms.Sorts.{is_term};
@@ -180,6 +180,9 @@ pub trait Cells: Store {
     // where the word of an atom stands, it stands for the atom's name
     ghost named: { (s : Self) (n : ℕ) → Holds (Self.present s) (Self.atom_word n)
         → (n < length (Self.names s)) × ((Self.present s).term (Self.atom_word n) ≡ Name (text_at (Self.names s) n)) };
+
+    // each name has one atom
+    ghost once: { (s : Self) → EachOnce (Self.names s) };
 
     // no variable has a number that is still to come
     ghost unreserved: { (s : Self) (n : ℕ) → (Self.present s).next ≤ n → (Self.present s).taken n ≡ false };

@@ -195,5 +195,7 @@ impl Cells for Heap {
 
     ghost named = { λ s n holds. atom-named s.named s.atoms n holds };
 
+    ghost once = { λ s. s.each_once };
+
     ghost unreserved = { λ s n high. next-untaken (take s.named s.atoms) s.area.low s.next s.is_heap n high };
 }
