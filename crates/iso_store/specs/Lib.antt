@@ -4,6 +4,7 @@ pub mod Writing
 pub mod Tasks
 pub mod Notes
 pub mod Searching
+pub mod Looks
 pub mod Listing
 pub mod Plans
 pub mod Planning

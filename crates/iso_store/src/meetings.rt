@@ -24,6 +24,7 @@ pub(crate) enum Meeting {
 }
 
 /// How the terms of the two shapes meet.
+#[inline(always)]
 pub(crate) fn meet(first: Shape, second: Shape) -> Meeting
     ensures { (names : List (List ℕ)) (a b : Tree) → EachOnce names → IsShape names first a → IsShape names second b → is_term a ≡ true → is_term b ≡ true → IsMeeting result a b }
 {

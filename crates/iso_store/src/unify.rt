@@ -43,8 +43,21 @@ enum Met {
     Compounds(usize),
 }
 
-/// Whether the unbound variable of this number occurs in what the other word stands for; it is searched only where it
-/// is not clear without.
+/// Whether the word stands for a compound. Else no variable that may be bound to it occurs in it.
+#[inline(always)]
+fn is_compound<S: Primitives>(store: &S, word: S::Word) -> bool
+    requires { Holds (S.present store.now) word }
+    ensures { result ≡ false → (number : ℕ) → IsYounger number (meaning (S.present store.now) word)
+        → occurs number (meaning (S.present store.now) word) ≡ false }
+{
+    match store.shape(word) {
+        Shape::Compound(_, _) => true,
+        Shape::Var(_) | Shape::Int(_) | Shape::Atom(_) => false,
+    }
+}
+
+/// Whether the unbound variable of this number, which may be bound to what the other word stands for, occurs there; it
+/// is searched only where it is not clear without.
 #[inline(always)]
 fn occurs_for<S: Primitives>(
     store: &S,
@@ -56,10 +69,11 @@ fn occurs_for<S: Primitives>(
     requires variable_holds { Holds (S.present store.now) variable }
     requires word_holds { Holds (S.present store.now) word }
     requires variable { meaning (S.present store.now) variable ≡ Variable number }
+    requires younger { IsYounger number (meaning (S.present store.now) word) }
     ensures occurs { IfOk result (λ b. b ≡ occurs number (meaning (S.present store.now) word)) }
     ensures joined { notes.new.joined ≡ notes.old.joined }
 {
-    if store.is_apart(variable, word) {
+    if !is_compound(store, word) || store.is_apart(variable, word) {
         return Ok(false);
     }
     occurs(
@@ -107,6 +121,23 @@ fn met_by(bound: bool) -> Met
     if bound { Met::Equal } else { Met::Never }
 }
 
+/// How what the words stand for meets. It is told apart first what the first one is: so no shape goes through memory.
+#[inline(always)]
+fn meeting<S: Primitives>(store: &S, one: S::Word, other: S::Word) -> Meeting
+    requires one { Holds (S.present store.now) one }
+    requires other { Holds (S.present store.now) other }
+    ensures meeting { IsMeeting result (meaning (S.present store.now) one) (meaning (S.present store.now) other) }
+    ensures one_term { is_term (meaning (S.present store.now) one) ≡ true }
+    ensures other_term { is_term (meaning (S.present store.now) other) ≡ true }
+{
+    match store.shape(one) {
+        Shape::Var(number) => meet(Shape::Var(number), store.shape(other)),
+        Shape::Int(value) => meet(Shape::Int(value), store.shape(other)),
+        Shape::Atom(name) => meet(Shape::Atom(name), store.shape(other)),
+        Shape::Compound(name, count) => meet(Shape::Compound(name, count), store.shape(other)),
+    }
+}
+
 /// Makes what the words stand for equal, where no arguments have to be for it.
 #[inline(always)]
 fn meet_pair<S: Primitives>(
@@ -125,7 +156,7 @@ fn meet_pair<S: Primitives>(
     ensures names { S.names store.new ≡ S.names store.old }
     ensures marks { KeepsMarks (S.stands store.old) (S.stands store.new) }
 {
-    match meet(store.shape(one), store.shape(other)) {
+    match meeting(store, one, other) {
         Meeting::Same => Ok(Met::Equal),
         Meeting::Clash => Ok(Met::Never),
         Meeting::FirstVariable(number) => {
@@ -171,37 +202,6 @@ pub(crate) fn leave_arguments<S: Primitives>(
     tasks.push(Task::Join(one, other))?;
     tasks.push(Task::Arguments(one, other, 0, count))?;
     Ok(())
-}
-
-/// Makes what the words stand for equal, where no arguments have to be for it; compounds are left to be. False where
-/// nothing makes them equal.
-fn unify_next<S: Primitives>(
-    store: &mut S,
-    one: S::Word,
-    other: S::Word,
-    notes: &mut UnifyNotes<S::Word>,
-    tasks: &mut Vec<Task<S::Word>>,
-) -> Result<bool, StoreFault>
-    requires one { Holds (S.present store.old) one }
-    requires other { Holds (S.present store.old) other }
-    requires stands { Stands (S.present store.old) (S.at_place store.old) notes.old.joined (meaning (S.present store.old) one ∷ []) (meaning (S.present store.old) other ∷ []) tasks.old.items }
-    ensures stands { IfOk result (λ answer. IsTrue answer → Stands (S.present store.new) (S.at_place store.new) notes.new.joined [] [] tasks.new.items) }
-    ensures steps { IfOk result (λ answer. MatchBool answer
-        (Steps (S.present store.old) (S.present store.new) (meaning (S.present store.old) one ∷ []) (meaning (S.present store.old) other ∷ []) tasks.old.items tasks.new.items)
-        (NeverEqual (meaning (S.present store.old) one) (meaning (S.present store.old) other))) }
-    ensures cells { Grows (S.present store.old) (S.present store.new) 0 0 }
-    ensures full { result ≡ Err StoreFault.Full → S.full store.new }
-    ensures names { S.names store.new ≡ S.names store.old }
-    ensures marks { KeepsMarks (S.stands store.old) (S.stands store.new) }
-{
-    match meet_pair(store, one, other, notes)? {
-        Met::Equal => Ok(true),
-        Met::Never => Ok(false),
-        Met::Compounds(count) => {
-            leave_arguments(store, one, other, count, &mut notes.joined, tasks)?;
-            Ok(true)
-        }
-    }
 }
 
 /// Makes the arguments from this place on equal, up to the first that are both compounds; these are left to be made
@@ -276,6 +276,42 @@ fn do_task<S: Primitives>(
     }
 }
 
+/// Whether two compounds of one name with so many arguments can be made equal, which then is bound, with these notes,
+/// and this list for what is left to do.
+#[inline(never)]
+fn unify_compounds<S: Primitives>(
+    store: &mut S,
+    one: S::Word,
+    other: S::Word,
+    count: usize,
+    notes: &mut UnifyNotes<S::Word>,
+    tasks: &mut Vec<Task<S::Word>>,
+) -> Result<bool, StoreFault>
+    requires one { Holds (S.present store.old) one }
+    requires other { Holds (S.present store.old) other }
+    requires meeting { IsMeeting (Meeting.Arguments count) (meaning (S.present store.old) one) (meaning (S.present store.old) other) }
+    requires one_term { is_term (meaning (S.present store.old) one) ≡ true }
+    requires other_term { is_term (meaning (S.present store.old) other) ≡ true }
+    ensures unified { IfOk result (IsUnification (S.present store.old) (S.present store.new) (meaning (S.present store.old) one) (meaning (S.present store.old) other)) }
+    ensures cells { Grows (S.present store.old) (S.present store.new) 0 0 }
+    ensures full { result ≡ Err StoreFault.Full → S.full store.new }
+    ensures names { S.names store.new ≡ S.names store.old }
+    ensures marks { KeepsMarks (S.stands store.old) (S.stands store.new) }
+{
+    if are_at_one_place(store, one, other) {
+        return Ok(true);
+    }
+    notes.joined.begin();
+    tasks.clear();
+    tasks.push(Task::Arguments(one, other, 0, count))?;
+    while let Some(task) = tasks.pop() {
+        if !do_task(store, task, notes, tasks)? {
+            return Ok(false);
+        }
+    }
+    Ok(true)
+}
+
 /// Whether what the words stand for can be made equal, which then is bound, with these notes, and this list for what
 /// is left to do.
 pub(crate) fn unify_with<S: Primitives>(
@@ -293,17 +329,11 @@ pub(crate) fn unify_with<S: Primitives>(
     ensures names { S.names store.new ≡ S.names store.old }
     ensures marks { KeepsMarks (S.stands store.old) (S.stands store.new) }
 {
-    notes.joined.begin();
-    tasks.clear();
-    if !unify_next(store, one, other, notes, tasks)? {
-        return Ok(false);
+    match meet_pair(store, one, other, notes)? {
+        Met::Equal => Ok(true),
+        Met::Never => Ok(false),
+        Met::Compounds(count) => unify_compounds(store, one, other, count, notes, tasks),
     }
-    while let Some(task) = tasks.pop() {
-        if !do_task(store, task, notes, tasks)? {
-            return Ok(false);
-        }
-    }
-    Ok(true)
 }
 
 /// Whether the word stands for an integer or an atom.

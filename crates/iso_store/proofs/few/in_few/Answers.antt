@@ -1,53 +1,97 @@
-use Rattle.std.proofs.Common.{true, false, Some}
-use Rattle.std.proofs.lemmas.List.Elements.{All-pop}
+use Rattle.std.proofs.Common.{◌≡◌, ◌+◌, ◌<◌, ◌∷◌, ◌++◌, [], false, refl, ap, sym, ◌∙◌, arith, rules, Some}
+use Rattle.std.proofs.lemmas.List.{nil_from_length}
+use Rattle.std.proofs.lemmas.List.Elements.{All-pop, All-push}
+use Rattle.iso_model.specs.Terms.Variables.{occurs}
 use Rattle.iso_store_core.specs.Presents.{meaning}
-use Rattle.iso_store.specs.Searching.{IsThere}
-use Rattle.iso_store.proofs.FewLemmas.{found-begun, found-taken, found-it}
+use Rattle.iso_store.specs.declared.occurs.Task.TheVariants.{Search}
+use Rattle.iso_store.specs.Searching.{IsThere, found}
+use Rattle.iso_store.proofs.FewLemmas.{whole-there, whole-found, found-more, found-last, found-there}
+use Rattle.iso_store.proofs.few.in_few.Goals.{in-Compound-look_at+then-index-count+in_ok-push-in-Compound-look_at, in-Compound-look_at+else-index-count, in-Absent-look_at+in-Some+in-Search, in-Absent-look_at+else-index-count-2}
 use Rattle.iso_store.proofs.few.in_few.Goals as goal
-
-pub returns-then-branch : goal.returns-then-branch
-returns-then-branch g c =
-    let p = g.S.Primitives.present c.args.store.now in
-    let at = g.S.Primitives.at_place c.args.store.now in
-    let shape = c.in-Compound.ensures.shape in
-    let here = rw c.if-branch.true at c.in_ok-look_through.ensures.found in
-    found-it p at c.args.number _ c.look_through.new.tasks.items
-    (found-begun p at c.args.number true c.clear.new.self.items c.look_through.new.tasks.items c.in-Compound.count _ (meaning p c.args.word) shape.1 shape.2 shape.3 c.in-Compound.ensures.term c.clear.ensures.items here)
 
 pub loop-look-init : goal.loop-look-init
 loop-look-init g c =
     let p = g.S.Primitives.present c.args.store.now in
     let at = g.S.Primitives.at_place c.args.store.now in
-    let shape = c.in-Compound.ensures.shape in
-    let here = rw c.if-branch.false at c.in_ok-look_through.ensures.found in
+    let e = c.in-Compound.ensures in
     record {
-      there = c.in_ok-look_through.ensures.there;
+      there = rw c.clear.ensures.items (search rules);
+      here = whole-there p c.args.word c.in-Compound.all e.0 e.1 e.2 e.3 e.4 c.requires;
       found =
-          found-begun p at c.args.number false c.clear.new.self.items c.look_through.new.tasks.items c.in-Compound.count _ (meaning p c.args.word) shape.1 shape.2 shape.3 c.in-Compound.ensures.term c.clear.ensures.items here;
+          whole-found p c.args.word c.in-Compound.all e.0 e.1 e.2 e.3 e.4 at c.args.number (occurs c.args.number (meaning p c.args.word)) c.clear.new.self.items
+          (ap (found p at c.args.number (occurs c.args.number (meaning p c.args.word))) c.clear.ensures.items);
     }
 
-pub look_through-requires-in-loop-look-clause-task :
-    goal.look_through-requires-in-loop-look-clause-task
-look_through-requires-in-loop-look-clause-task g c =
-    let p = g.S.Primitives.present c.args.store.now in
-    rw c.in-Search.is at ((All-pop (IsThere p) c.loop-look.tasks.items c.pop.new.self.items (Some c.in-Some.task) c.in-Some.ensures.items c.loop-look.invariant.there).1)
-
-pub returns-then-branch-2 : goal.returns-then-branch-2
-returns-then-branch-2 g c =
+pub returns-in-There-look_at : goal.returns-in-There-look_at
+returns-in-There-look_at g c =
     let p = g.S.Primitives.present c.args.store.now in
     let at = g.S.Primitives.at_place c.args.store.now in
-    let search = c.in-Search in
-    let here = rw c.if-branch-2.true at c.in_ok-look_through-2.ensures.found in
-    found-it p at c.args.number _ c.look_through-in-loop-look.new.tasks.items
-    (found-taken p at c.args.number true _ c.pop.new.self.items c.look_through-in-loop-look.new.tasks.items c.loop-look.tasks.items c.in-Some.task search.word search.start search.count search.is c.in-Some.ensures.items c.loop-look.invariant.found here)
+    let i = c.loop-look.invariant in
+    found-there p at c.args.number c.loop-look.tasks.items c.loop-look.compound c.loop-look.index c.loop-look.count i.here.1 i.here.2 (meaning p c.arg-argument.result) c.arg-argument.ensures.value
+    (occurs c.args.number (meaning p c.args.word)) i.found c.in-There-look_at.ensures
+
+pub returns-in_default : goal.returns-in_default
+returns-in_default g c =
+    let p = g.S.Primitives.present c.args.store.now in
+    let at = g.S.Primitives.at_place c.args.store.now in
+    let i = c.loop-look.invariant in
+    let none : c.loop-look.tasks.items ≡ [] = nil_from_length _ (sym c.loop-look.tasks.ok.0 ∙ c.in_default.ensures.cases.0) in
+    rw none at (found-last p at c.args.number c.loop-look.tasks.items c.loop-look.compound c.loop-look.index c.loop-look.count i.here.1 i.here.2 (meaning p c.arg-argument.result) c.arg-argument.ensures.value
+    (occurs c.args.number (meaning p c.args.word)) i.found false c.in-Absent-look_at.ensures (sym c.behind-index.ensures ∙ c.if-index-count-2.true))
 
 pub loop-look-preserved : goal.loop-look-preserved
 loop-look-preserved g c =
     let p = g.S.Primitives.present c.args.store.now in
     let at = g.S.Primitives.at_place c.args.store.now in
-    let search = c.in-Search in
-    let here = rw c.if-branch-2.false at c.in_ok-look_through-2.ensures.found in
-    record {
-      there = c.in_ok-look_through-2.ensures.there;
-      found = found-taken p at c.args.number false _ c.pop.new.self.items c.look_through-in-loop-look.new.tasks.items c.loop-look.tasks.items c.in-Some.task search.word search.start search.count search.is c.in-Some.ensures.items c.loop-look.invariant.found here;
-    }
+    let x = c.args.number in
+    let i = c.loop-look.invariant in
+    let xs = c.loop-look.tasks.items in
+    let word = c.loop-look.compound in
+    let index = c.loop-look.index in
+    let next = c.behind-index.ensures in
+    let count = c.loop-look.count in
+    let argument = c.arg-argument.result in
+    let t = meaning p argument in
+    let all = occurs x (meaning p c.args.word) in
+    elim c.match-look_at-2.branch [
+      | in-Compound-look_at+then-index-count+in_ok-push-in-Compound-look_at w ↦
+          let e = w.in-Compound-look_at.ensures in
+          let more = w.in_ok-push-in-Compound-look_at.ensures.items in
+          rw (w.tasks-is, w.compound-is, w.index-is, w.count-is)
+          (record {
+            there = rw (more, next) (All-push (IsThere p) xs (Search word (index + 1) count) i.there (i.here.0, rw next at w.if-index-count.true, i.here.2));
+            here = whole-there p argument _ e.0 e.1 e.2 e.3 e.4 c.arg-argument.ensures.holds;
+            found =
+                whole-found p argument _ e.0 e.1 e.2 e.3 e.4 at x all w.push.new.self.items
+                (found-more p at x xs word index count i.here.1 i.here.2 t c.arg-argument.ensures.value all i.found (occurs x t) w.push.new.self.items refl (rw next at more));
+          })
+      | in-Compound-look_at+else-index-count w ↦
+          let e = w.in-Compound-look_at.ensures in
+          let last : index + 1 ≡ count = omega (arith, i.here.1, next, w.if-index-count.false) in
+          rw (w.tasks-is, w.compound-is, w.index-is, w.count-is)
+          (record {
+            there = i.there;
+            here = whole-there p argument _ e.0 e.1 e.2 e.3 e.4 c.arg-argument.ensures.holds;
+            found =
+                whole-found p argument _ e.0 e.1 e.2 e.3 e.4 at x all xs
+                (found-last p at x xs word index count i.here.1 i.here.2 t c.arg-argument.ensures.value all i.found (occurs x t) refl last);
+          })
+      | in-Absent-look_at+in-Some+in-Search w ↦
+          let taken : xs ≡ w.pop.new.self.items ++ Search w.in-Search.next w.in-Search.start w.in-Search.many ∷ [] = w.in-Some.ensures.items ∙ ap (λ k. w.pop.new.self.items ++ k ∷ []) w.in-Search.is in
+          let both = All-pop (IsThere p) xs w.pop.new.self.items (Some (Search w.in-Search.next w.in-Search.start w.in-Search.many)) taken i.there in
+          rw (w.tasks-is, w.compound-is, w.index-is, w.count-is)
+          (record {
+            there = both.0;
+            here = both.1;
+            found =
+                rw taken at (found-last p at x xs word index count i.here.1 i.here.2 t c.arg-argument.ensures.value all i.found false w.in-Absent-look_at.ensures (sym next ∙ w.if-index-count-2.true));
+          })
+      | in-Absent-look_at+else-index-count-2 w ↦
+          let below : index + 1 < count = omega (arith, i.here.1, next, w.if-index-count-2.false) in
+          rw (w.tasks-is, w.compound-is, w.index-is, w.count-is, next)
+          (record {
+            there = i.there;
+            here = (i.here.0, below, i.here.2);
+            found = found-more p at x xs word index count i.here.1 i.here.2 t c.arg-argument.ensures.value all i.found false (xs ++ Search word (index + 1) count ∷ []) w.in-Absent-look_at.ensures refl;
+          })
+    ]

@@ -1,13 +1,15 @@
--- The variable is in what is left where it is in the whole.
-use Rattle.std.proofs.Common.{◌≡◌, false}
+-- The variable is in the arguments that are left, or in what is left to do, where it is in the whole.
+use Rattle.std.proofs.Common.{◌≡◌, ◌∷◌, ◌++◌, [], false}
 use Rattle.std.specs.List.{All}
 use Rattle.iso_model.specs.Terms.Variables.{occurs}
 use Rattle.iso_store_core.specs.Presents.{meaning}
+use Rattle.iso_store.specs.declared.occurs.Task.TheVariants.{Search}
 use Rattle.iso_store.specs.Searching.{IsThere, found}
 use Rattle.iso_store.proofs.few.in_few.Given as goal
 
 abbrev pub invariant-loop-look : goal.invariant-loop-look
 invariant-loop-look g l = record {
   there : All (IsThere (g.S.Primitives.present l.store)) l.tasks.items;
-  found : found (g.S.Primitives.present l.store) (g.S.Primitives.at_place l.store) l.number false l.tasks.items ≡ occurs l.number (meaning (g.S.Primitives.present l.store) l.fn.word);
+  here : IsThere (g.S.Primitives.present l.store) (Search l.compound l.index l.count);
+  found : found (g.S.Primitives.present l.store) (g.S.Primitives.at_place l.store) l.number false (l.tasks.items ++ Search l.compound l.index l.count ∷ []) ≡ occurs l.number (meaning (g.S.Primitives.present l.store) l.fn.word);
 }

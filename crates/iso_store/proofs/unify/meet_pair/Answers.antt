@@ -3,7 +3,7 @@ use Rattle.iso_store.proofs.unify.meet_pair.Goals as goal
 
 pub returns-in-Same-clause-met : goal.returns-in-Same-clause-met
 returns-in-Same-clause-met g c =
-    met-same _ _ _ (c.in-Same.ensures _ _ _ c.shape.ensures.each_once c.shape.ensures.shape c.shape-2.ensures.shape c.shape.ensures.term c.shape-2.ensures.term)
+    met-same _ _ _ c.in-Same.ensures.meeting
 
 pub returns-in_ok-bind_checked-in-FirstVariable-clause-joined :
     goal.returns-in_ok-bind_checked-in-FirstVariable-clause-joined

@@ -5,7 +5,7 @@ use Rattle.iso_model.specs.Terms.Substitutions.{Subst}
 use Rattle.iso_model.proofs.OnTerms.Cost.{cost}
 use Rattle.iso_store_core.specs.Presents.{meaning, Binds, Grows, KeepsMarks}
 use Rattle.iso_store.specs.Unifying.{LeftBy, Stands, ones, others}
-use Rattle.iso_store.proofs.unify.unify_with.Given as goal
+use Rattle.iso_store.proofs.unify.unify_compounds.Given as goal
 
 abbrev pub invariant-loop-task : goal.invariant-loop-task
 invariant-loop-task g l = record {
