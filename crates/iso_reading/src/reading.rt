@@ -44,11 +44,45 @@ pub fn read_operand<S: Cells>(
             environment[*variable] = argument;
             Ok(true)
         }
+        Operand::Inner(compound) => {
+            compounds[*compound] = argument;
+            Ok(true)
+        }
+        _ => read_any(store, operand, argument, environment, compounds),
+    }
+}
+
+/// The same, by a call: most operands are new variables, whose places take the word without one.
+#[inline(never)]
+fn read_any<S: Cells>(
+    store: &mut S,
+    operand: &Operand,
+    argument: S::Word,
+    environment: &mut [S::Word],
+    compounds: &mut [S::Word],
+) -> Result<bool, StoreFault>
+    requires argument { Holds (S.present store.old) argument }
+    requires inside { IsInside (length (S.names store.old)) (length environment.old) (length compounds.old) operand.now }
+    requires ready { (arguments : List S.Word) × StandsReady (S.present store.old) environment.old arguments compounds.old (operand.now ∷ []) }
+    ensures reads { IfOk result (λ answer. ReadsOne (S.names store.old) operand.now (S.present store.old) (S.present store.new) argument environment.old environment.new compounds.old compounds.new answer) }
+    ensures carries { IfOk result (λ answer. IsTrue answer → Carries (S.present store.old) (S.present store.new)) }
+    ensures environment { length environment.new ≡ length environment.old }
+    ensures compounds { length compounds.new ≡ length compounds.old }
+    ensures kept { (names count : ℕ) → IsInside names count 0 operand.now → compounds.new ≡ compounds.old }
+    ensures cells { Grows (S.present store.old) (S.present store.new) (part_cells (part_at [] 0 operand.now)) 0 }
+    ensures full { result ≡ Err StoreFault.Full → S.full store.new }
+    ensures rest { RetainsAll S.Store store.old store.new }
+{
+    match operand {
+        Operand::New(place) => {
+            environment[*place] = argument;
+            Ok(true)
+        }
         Operand::Old(variable) => store.unify(argument, environment[*variable]),
         Operand::Integer(value) => store.meet_integer(argument, *value),
         Operand::Atom(name) => store.meet_atom(argument, *name),
-        Operand::Inner(compound) => {
-            compounds[*compound] = argument;
+        Operand::Inner(number) => {
+            compounds[*number] = argument;
             Ok(true)
         }
     }

@@ -13,7 +13,7 @@ use Rattle.iso_model.specs.Terms.Substitutions.{Subst, apply}
 use Rattle.iso_store_core.specs.Presents.{Present, Holds, KeepsWords, KeepsNumbers, Makes}
 use Rattle.iso_compile.specs.Table.{Registers, Part, part_term, part_row, assign, filled}
 use Rattle.iso_compile.specs.Orders.{part_cells, parts_cells}
-use Rattle.iso_code.specs.Loaded.{IsMet, part_at, block_at, all_operands}
+use Rattle.iso_code.specs.Loaded.{IsInside, IsMet, part_at, block_at, all_operands}
 use Rattle.iso_code.specs.Standing.{IsFor, Known}
 use Rattle.iso_code.proofs.CellLemmas.{taken_one}
 use Rattle.iso_code.proofs.UnifierLemmas.{keeps_none, keeps_on}
@@ -93,6 +93,11 @@ module _ {W : Type 0} (p : Present W) (environment compounds : List W) where
 
   pub inner_holds : (k : ℕ) (w : W) (operand : Operand) → k < length compounds → w ≡ get_or compounds k w → operand ≡ Inner k → IsHeld p environment compounds operand → Holds p w
   inner_holds k w operand inside is inner held = (rw inner at held) w (slice_get_read compounds (length compounds) k w refl inside is)
+
+-- the variable that an operand is has a place
+pub variable_inside : (names count compounds x : ℕ) (operand : Operand) → (operand ≡ New x) ⊎ (operand ≡ Old x) → IsInside names count compounds operand → x < count
+variable_inside names count compounds x operand (inl new) inside = rw new at inside
+variable_inside names count compounds x operand (inr old) inside = rw old at inside
 
 -- ---- operands, one behind the other
 

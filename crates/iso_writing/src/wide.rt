@@ -18,32 +18,8 @@ use iso_cells::Cells;
 use iso_code::Operand;
 use iso_store_core::StoreFault;
 
-/// The word of the argument that an operand is, whose variable was met. The errors: the store is full, or memory was
-/// refused.
-#[inline(always)]
-pub fn known_word<S: Cells>(
-    store: &mut S,
-    operand: &Operand,
-    environment: &[S::Word],
-    compounds: &[S::Word],
-) -> Result<S::Word, StoreFault>
-    requires inside { IsInside (length (S.names store.old)) (length environment.now) (length compounds.now) operand.now }
-    requires held { IsHeld (S.present store.old) environment.now compounds.now operand.now }
-    ensures word { (own by : Subst) (next low : ℕ) (met : ℕ → Bool) (rs : Registers) → Known (S.present store.old) own by next low met environment.now compounds.now rs → IsMet met operand.now
-        → IfOk result (λ w. IsFor (S.present store.new) own by w (part_term next rs (part_at (S.names store.old) low operand.now))) }
-    ensures holds { IfOk result (λ w. Holds (S.present store.new) w) }
-    ensures adds { OnOk result (Adds (S.present store.old) (S.present store.new)) }
-    ensures cells { CountsCells S.Store → Grows (S.present store.old) (S.present store.new) (part_cells (part_at (S.names store.old) 0 operand.now)) 0 }
-    ensures full { result ≡ Err StoreFault.Full → S.full store.new }
-    ensures rest { RetainsAll S.Store store.old store.new }
-{
-    match operand {
-        Operand::New(variable) | Operand::Old(variable) => Ok(environment[*variable]),
-        _ => constant_or_compound(store, operand, environment, compounds),
-    }
-}
-
-/// The same, by a call: most operands are variables, whose words are taken without one.
+/// The word of the argument that an operand is, whose variable was met. This is a call, since most operands are
+/// variables, whose words are taken without one. The errors: the store is full, or memory was refused.
 #[inline(never)]
 fn constant_or_compound<S: Cells>(
     store: &mut S,
@@ -93,7 +69,10 @@ pub fn known_words<S: Cells>(
 {
     let mut index = 0;
     while index < operands.len() {
-        words[index] = known_word(store, &operands[index], environment, compounds)?;
+        words[index] = match &operands[index] {
+            Operand::New(variable) | Operand::Old(variable) => environment[*variable],
+            operand => constant_or_compound(store, operand, environment, compounds)?,
+        };
         index += 1;
     }
     Ok(())

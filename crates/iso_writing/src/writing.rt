@@ -2,7 +2,7 @@
 ghost use Rattle.std.specs.Prelude.{◌≡◌, ◌≤◌, ◌<◌, ◌+◌, ◌^◌, ℕ, Bool, List, IfOk, IsTrue, OnOk, [], ◌∷◌, length, true, false};
 ghost use Rattle.std.specs.List.{All};
 ghost use Rattle.iso_model.specs.Terms.Trees.{Variable};
-ghost use Rattle.iso_store_core.specs.Presents.{Holds, Grows, meaning};
+ghost use Rattle.iso_store_core.specs.Presents.{Holds, Grows, IsUnification, meaning};
 ghost use Rattle.iso_store_core.specs.Retaining.{CountsCells, RetainsAll};
 ghost use Rattle.iso_compile.specs.CodeLaws.{State};
 ghost use Rattle.iso_code.specs.Loaded.{IsInside, IsSound, IsOfCompound, AreMarked, all_operands};
@@ -60,6 +60,19 @@ fn are_apart<S: Cells>(
     true
 }
 
+/// Unifies a variable with a compound that was made, by a call: mostly it shows that the variable doesn't occur in it.
+#[inline(never)]
+fn unify_made<S: Cells>(store: &mut S, variable: S::Word, made: S::Word) -> Result<bool, StoreFault>
+    requires variable { Holds (S.present store.old) variable }
+    requires made { Holds (S.present store.old) made }
+    ensures unified { IfOk result (IsUnification (S.present store.old) (S.present store.new) (meaning (S.present store.old) variable) (meaning (S.present store.old) made)) }
+    ensures cells { Grows (S.present store.old) (S.present store.new) 0 0 }
+    ensures full { result ≡ Err StoreFault.Full → S.full store.new }
+    ensures rest { RetainsAll S.Store store.old store.new }
+{
+    store.unify(variable, made)
+}
+
 /// The unbound variable is unified with the compound of a block with these operands, and without others in it.
 #[inline(always)]
 fn write_operands<S: Cells>(
@@ -92,7 +105,7 @@ fn write_operands<S: Cells>(
         store.bind_made(variable, made)?;
         return Ok(true);
     }
-    store.unify(variable, made)
+    unify_made(store, variable, made)
 }
 
 /// The unbound variable is unified with the compound of a block without others in it.
@@ -138,22 +151,52 @@ fn write_flat_block<S: Cells>(
             let both = [Operand::Old(*one), Operand::Old(*two)];
             write_operands(store, first, block, &both, variable, environment, compounds)
         }
-        operands => write_operands(
-            store,
-            first,
-            block,
-            operands,
-            variable,
-            environment,
-            compounds,
-        ),
+        _ => write_any(store, first, block, variable, environment, compounds),
     }
+}
+
+/// The same, by a call: most blocks are of two variables.
+#[inline(never)]
+fn write_any<S: Cells>(
+    store: &mut S,
+    first: u64,
+    block: &Block,
+    variable: S::Word,
+    environment: &mut [S::Word],
+    compounds: &mut [S::Word],
+) -> Result<bool, StoreFault>
+    requires stands { (f : Files S.Word) × (t : Setting) × (met : ℕ → Bool) × (state : State) × Stands (S.present store.old) f t met state
+        × (f.environment ≡ environment.old) × (f.compounds ≡ compounds.old) × (t.first ≡ first) × AreMarked met block.now.operands.items }
+    requires sound { IsSound (length (S.names store.old)) (length environment.old) (length compounds.old) block.now }
+    requires narrow { block.now.wide ≡ false }
+    requires variable { Holds (S.present store.old) variable }
+    requires unbound { (n : ℕ) × (meaning (S.present store.old) variable ≡ Variable n) }
+    requires numbers { (S.present store.old).next < 2 ^ 63 }
+    ensures writes { IfOk result (λ answer. WritesBlock (S.names store.old) block.now [] first (S.present store.old) (S.present store.new) variable environment.old environment.new compounds.old compounds.new answer) }
+    ensures count { length environment.new ≡ length environment.old }
+    ensures many { length compounds.new ≡ length compounds.old }
+    ensures carries { IfOk result (λ answer. IsTrue answer → Carries (S.present store.old) (S.present store.new)) }
+    ensures cells { Grows (S.present store.old) (S.present store.new) (length block.now.operands.items + 1) (news block.now.operands.items) }
+    ensures full { result ≡ Err StoreFault.Full → S.full store.new }
+    ensures rest { RetainsAll S.Store store.old store.new }
+{
+    let operands = block.operands.as_slice();
+    write_operands(
+        store,
+        first,
+        block,
+        operands,
+        variable,
+        environment,
+        compounds,
+    )
 }
 
 /// The unbound variable is unified with the compound of the first block; those behind it are of compounds in it, which
 /// are made first. Their variables that are met for the first time are numbered from `first` on by their numbers in the
 /// clause; their words are at their places from here on. The list of words is for those of arguments. False where the
 /// two don't unify. The errors: the store is full, or memory was refused.
+#[inline(always)]
 pub fn write_block<S: Cells>(
     store: &mut S,
     first: u64,
@@ -183,6 +226,46 @@ pub fn write_block<S: Cells>(
     if inner.is_empty() && !block.wide {
         return write_flat_block(store, first, block, variable, environment, compounds);
     }
+    write_nested(
+        store,
+        first,
+        block,
+        inner,
+        variable,
+        environment,
+        compounds,
+        words,
+    )
+}
+
+/// The same, by a call: most compounds have no others in them.
+#[inline(never)]
+fn write_nested<S: Cells>(
+    store: &mut S,
+    first: u64,
+    block: &Block,
+    inner: &[Block],
+    variable: S::Word,
+    environment: &mut [S::Word],
+    compounds: &mut [S::Word],
+    words: &mut Vec<S::Word>,
+) -> Result<bool, StoreFault>
+    requires stands { (f : Files S.Word) × (t : Setting) × (met : ℕ → Bool) × (state : State) × Stands (S.present store.old) f t met state
+        × (f.environment ≡ environment.old) × (f.compounds ≡ compounds.old) × (t.first ≡ first) × AreMarked met (all_operands (block.now ∷ inner.now)) }
+    requires sound { All (IsSound (length (S.names store.old)) (length environment.old) (length compounds.old)) (block.now ∷ inner.now) }
+    requires compounds { All (IsOfCompound (length compounds.old)) inner.now }
+    requires variable { Holds (S.present store.old) variable }
+    requires unbound { (n : ℕ) × (meaning (S.present store.old) variable ≡ Variable n) }
+    requires numbers { (S.present store.old).next < 2 ^ 63 }
+    ensures writes { IfOk result (λ answer. WritesBlock (S.names store.old) block.now inner.now first (S.present store.old) (S.present store.new) variable environment.old environment.new compounds.old compounds.new answer) }
+    ensures count { length environment.new ≡ length environment.old }
+    ensures many { length compounds.new ≡ length compounds.old }
+    ensures carries { IfOk result (λ answer. IsTrue answer → Carries (S.present store.old) (S.present store.new)) }
+    ensures cells { CountsCells S.Store → Grows (S.present store.old) (S.present store.new)
+        (cells_of_blocks (block.now ∷ inner.now) + news (all_operands (block.now ∷ inner.now))) (news (all_operands (block.now ∷ inner.now))) }
+    ensures full { result ≡ Err StoreFault.Full → S.full store.new }
+    ensures rest { RetainsAll S.Store store.old store.new }
+{
     make_variables(store, first, block.operands.as_slice(), environment)?;
     make_all_variables(store, first, inner, environment)?;
     write_all(store, inner, environment, compounds, words)?;

@@ -43,8 +43,8 @@ returns-then-are_apart-clause-writes g c =
 
 pub returns-clause-writes : goal.returns-clause-writes
 returns-clause-writes g c =
-    block_unifies (g.S.Store.names c.args.store.now) c.args.block.now [] c.args.first (g.S.Store.present c.args.store.now) (g.S.Store.present c.write_flat.new.store) (g.S.Store.present c.unify.new.self)
-    (g.met.S.Store.untouched c.write_flat.new.store) c.args.variable c.in_ok-made.made c.args.environment.now c.write_flat.new.environment c.args.compounds.now c.args.compounds.now c.unify.result
+    block_unifies (g.S.Store.names c.args.store.now) c.args.block.now [] c.args.first (g.S.Store.present c.args.store.now) (g.S.Store.present c.write_flat.new.store) (g.S.Store.present c.unify_made.new.store)
+    (g.met.S.Store.untouched c.write_flat.new.store) c.args.variable c.in_ok-made.made c.args.environment.now c.write_flat.new.environment c.args.compounds.now c.args.compounds.now c.unify_made.result
     (flat_makes (g.S.Store.names c.args.store.now) c.args.block.now c.args.first (g.S.Store.present c.args.store.now) (g.S.Store.present c.write_flat.new.store) c.in_ok-made.made
     c.args.environment.now c.write_flat.new.environment c.args.compounds.now c.in_ok-made.ensures.makes c.in_ok-made.ensures.made)
-    c.unify.ensures.unified
+    c.unify_made.ensures.unified
