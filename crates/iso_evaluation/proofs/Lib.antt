@@ -1,3 +1,4 @@
 pub mod StepLemmas
 pub mod GoalLemmas
 pub mod ValueLemmas
+pub mod ShortLemmas

@@ -44,7 +44,7 @@ on_twice (Err error) w does = refl
 
 module _ (names : List (List ℕ)) (next : ℕ) (s : Subst) where
   -- a value, and others behind it
-  value_then : (k : expressions.Step) (o : Operand) (ks : List expressions.Step) (zs : List ℤ) → IsStep names k (step.Value o)
+  pub value_then : (k : expressions.Step) (o : Operand) (ks : List expressions.Step) (zs : List ℤ) → IsStep names k (step.Value o)
       → done next s (k ∷ ks) zs ≡ on_value (operand_value names next s o) (λ z. done next s ks (z ∷ zs))
   value_then k o ks zs h =
       step_first next s k ks zs ∙ ap (λ r. and_then r (done next s ks)) (value_step names next s k o zs h)

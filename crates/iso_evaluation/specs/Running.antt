@@ -1,5 +1,5 @@
 -- What running the steps of an expression comes to, by the table of instructions.
-use Rattle.std.specs.Prelude.{◌≡◌, ◌≢◌, ◌+◌, ℕ, ℤ, List, [], ◌∷◌, length, nat_lt, Bool, Option, Some, None, Result, Ok, Err, reverse, if◌then◌else◌}
+use Rattle.std.specs.Prelude.{◌≡◌, ◌≢◌, ◌<◌, ◌+◌, ℕ, suc, ℤ, List, [], ◌∷◌, length, nat_lt, Bool, Option, Some, None, Result, Ok, Err, reverse, if◌then◌else◌}
 use Rattle.std.specs.List.{slice_get}
 use Rattle.iso_model.specs.Terms.Trees.{Tree, Variable, End}
 use Rattle.iso_model.specs.Terms.Substitutions.{Subst, apply}
@@ -16,6 +16,9 @@ use Rattle.iso_compile.specs.Expressions.{on_value}
 use Rattle.iso_compile.specs.Evaluations.{with_two}
 use Rattle.iso_code.specs.declared.operands.Operand.{Operand}
 use Rattle.iso_code.specs.Loaded.{part_at}
+use Rattle.iso_arith.specs.declared.operations.Binary.{Binary}
+use Rattle.iso_instructions.specs.declared.instructions.Step.{Step}
+use Rattle.iso_instructions.specs.declared.instructions.Step.TheVariants as step
 
 -- The words stand for the variables of a clause, which are numbered from next on, under this substitution.
 abbrev pub StandFor : {W : Type 0} → Present W → List W → ℕ → Subst → Type 0
@@ -74,3 +77,7 @@ LeavesOne names (Err e) outcome = Leaves names (Err e) [] outcome
 abbrev pub HoldsOfTwo : List (List ℕ) → Comparison → Result Bool EvalFault → Result (List ℤ) Tree → Type 0
 HoldsOfTwo names c (Ok answer) outcome = (k : Key) → with_two outcome k (λ x y. tested (compares c x y)) ≡ tested answer
 HoldsOfTwo names c (Err e) outcome = Leaves names (Err e) [] outcome
+
+-- the steps from this place on begin with the value of this operand, and this operation of two
+abbrev pub AreValueAndOperation : List Step → ℕ → Operand → Binary → Type 0
+AreValueAndOperation steps i o b = (suc i < length steps) × (slice_get steps i ≡ Some (step.Value o)) × (slice_get steps (suc i) ≡ Some (step.Two b))

@@ -17,6 +17,7 @@ ghost use Rattle.iso_code.specs.Loaded.{part_at};
 ghost use Rattle.iso_instructions.specs.Steps.{IsStep, IsStepThere, IsThere};
 ghost use Rattle.iso_evaluation.specs.Running.{StandFor};
 
+use super::shorts::{holds_of_shorts, short_value_left};
 use super::values::{holds_of_values, value_left};
 use iso_arith::Evaluables;
 use iso_cells::Cells;
@@ -54,9 +55,10 @@ fn equate_operand<S: Cells>(
     }
 }
 
-/// `is/2` (8.6.1): what comes first is unified with the value that the steps leave. The list is for the values of
-/// expressions, and loses what it had. The errors: one is raised, the store is full, or memory was refused.
-pub fn evaluate<S: Cells>(
+/// `is/2` (8.6.1) of any expression: what comes first is unified with the value that the steps leave. The list is for the
+/// values of expressions, and loses what it had. The errors: one is raised, the store is full, or memory was refused.
+#[inline(never)]
+fn evaluate_any<S: Cells>(
     alloc: Global,
     store: &mut S,
     evaluables: &Evaluables,
@@ -85,9 +87,41 @@ pub fn evaluate<S: Cells>(
     }
 }
 
-/// A comparison (8.7.1) of the two values that the steps leave. The list is for the values of expressions, and loses
-/// what it had. The errors: one is raised, or memory was refused.
-pub fn compare<S: Store>(
+/// `is/2` (8.6.1): what comes first is unified with the value that the steps leave. The list is for the values of
+/// expressions, and loses what it had. The errors: one is raised, the store is full, or memory was refused.
+#[inline(always)]
+pub fn evaluate<S: Cells>(
+    alloc: Global,
+    store: &mut S,
+    evaluables: &Evaluables,
+    left: &Operand,
+    steps: &[Step],
+    environment: &[S::Word],
+    values: &mut Vec<i128>,
+) -> Result<Reply, Fault>
+    requires evaluables { AreEvaluables (S.names store.old) evaluables.now }
+    requires left { IsThere (length (S.names store.old)) (length environment.now) left.now }
+    requires steps { All (IsStepThere (length (S.names store.old)) (length environment.now)) steps.now }
+    requires environment { All (Holds (S.present store.old)) environment.now }
+    ensures replies { (next : ℕ) (s : Subst) (ks : List expressions.Step) → StandFor (S.present store.old) environment.now next s
+        → AllZip (IsStep (S.names store.old)) ks steps.now
+        → IsReply (S.present store.old) (S.present store.new) (evaluated next s (part_at (S.names store.old) 0 left.now) ks) result }
+    ensures full { result ≡ Err Fault.Full → S.full store.new }
+    ensures cells { (next : ℕ) (s : Subst) (ks : List expressions.Step) → StandFor (S.present store.old) environment.now next s
+        → AllZip (IsStep (S.names store.old)) ks steps.now
+        → Takes S.Store store.old store.new (made_for (evaluated next s (part_at (S.names store.old) 0 left.now) ks)) }
+    ensures rest { RetainsAll S.Store store.old store.new }
+{
+    match short_value_left(store, steps, environment) {
+        Some(value) => equate_operand(store, left, environment, i128::from(value)),
+        None => evaluate_any(alloc, store, evaluables, left, steps, environment, values),
+    }
+}
+
+/// A comparison (8.7.1) of the two values that the steps of any expressions leave. The list is for the values of
+/// expressions, and loses what it had. The errors: one is raised, or memory was refused.
+#[inline(never)]
+fn compare_any<S: Store>(
     alloc: Global,
     store: &S,
     evaluables: &Evaluables,
@@ -115,5 +149,39 @@ pub fn compare<S: Store>(
     ) {
         Ok(answer) => Ok(tested(answer)),
         Err(fault) => Err(raised(alloc, store, fault, name_of(comparison), 2)),
+    }
+}
+
+/// A comparison (8.7.1) of the two values that the steps leave. The list is for the values of expressions, and loses
+/// what it had. The errors: one is raised, or memory was refused.
+#[inline(always)]
+pub fn compare<S: Store>(
+    alloc: Global,
+    store: &S,
+    evaluables: &Evaluables,
+    comparison: Comparison,
+    steps: &[Step],
+    environment: &[S::Word],
+    values: &mut Vec<i128>,
+) -> Result<Reply, Fault>
+    requires evaluables { AreEvaluables (S.names store.now) evaluables.now }
+    requires steps { All (IsStepThere (length (S.names store.now)) (length environment.now)) steps.now }
+    requires environment { All (Holds (S.present store.now)) environment.now }
+    ensures replies { (next : ℕ) (s : Subst) (ks : List expressions.Step) → StandFor (S.present store.now) environment.now next s
+        → AllZip (IsStep (S.names store.now)) ks steps.now
+        → IsReply (S.present store.now) (S.present store.now) (compared comparison next s ks) result }
+    ensures full { result ≢ Err Fault.Full }
+{
+    match holds_of_shorts(store, comparison, steps, environment) {
+        Some(answer) => Ok(tested(answer)),
+        None => compare_any(
+            alloc,
+            store,
+            evaluables,
+            comparison,
+            steps,
+            environment,
+            values,
+        ),
     }
 }

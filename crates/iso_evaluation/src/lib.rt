@@ -2,6 +2,7 @@
 #![tactic(auto)]
 
 mod goals;
+mod shorts;
 mod steps;
 mod values;
 

@@ -6,7 +6,7 @@ use Rattle.iso_model.specs.Search.Library.{comparison_name, compares, tested}
 use Rattle.iso_lib_core.specs.Replies.{IsReply, IsNumber}
 use Rattle.iso_compile.specs.Expressions.{done}
 use Rattle.iso_evaluation.proofs.GoalLemmas.{two_raised, tested_replies}
-use Rattle.iso_evaluation.proofs.goals.compare.Goals as goal
+use Rattle.iso_evaluation.proofs.goals.compare_any.Goals as goal
 
 pub returns-in-Err-clause-replies : goal.returns-in-Err-clause-replies
 returns-in-Err-clause-replies g c next s ks stand zip =
