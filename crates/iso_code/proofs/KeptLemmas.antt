@@ -38,6 +38,7 @@ module _ (old new : List (List ℕ)) (keeps : KeepsTexts old new) where
     few = h.few;
     inside = all_inside_kept count compounds b.operands.items h.inside;
     narrow = h.narrow;
+    pair = h.pair;
   }
 
   pub all_sound_kept : (count compounds : ℕ) (bs : List Block) → All (IsSound (length old) count compounds) bs → All (IsSound (length new) count compounds) bs

@@ -57,6 +57,7 @@ module _ (old new : List (List ℕ)) (keeps : KeepsTexts old new) (low : ℕ) wh
     operands = zip_weaker (IsLoaded old low s) (IsLoaded new low s) (operand_kept s) b.parts.items l.operands.items h.operands;
     inner = h.inner;
     wide = h.wide;
+    pair = h.pair;
   }
 
   pub get_kept : (g : compiled_get.Get) (l : Get) → IsLoadedGet old low g l → IsLoadedGet new low g l

@@ -204,6 +204,7 @@ module _ (names : List (List ℕ)) (low : ℕ) where
         few = omega (arith, full.few, many, parts);
         inside = operands_inside count compounds s b.parts.items l.operands.items h.operands below room;
         narrow = λ no. all_narrow l.operands.items (sym h.wide ∙ no);
+        pair = h.pair;
       }
 
   -- a register is there

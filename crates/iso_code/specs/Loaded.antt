@@ -9,6 +9,8 @@ use Rattle.iso_code.specs.declared.operands.Operand.{Operand}
 use Rattle.iso_code.specs.declared.operands.Operand.TheVariants.{New, Old, Integer, Atom, Inner}
 use Rattle.iso_code.specs.declared.operands.Register.{Register}
 use Rattle.iso_code.specs.declared.operands.Register.TheVariants.{Argument, Compound}
+use Rattle.iso_code.specs.declared.operands.Pair.{Pair}
+use Rattle.iso_code.specs.declared.operands.Pair.TheVariants.{NewNew, OldNew, NewOld, Other}
 use Rattle.iso_code.specs.declared.operands.Block.{Block}
 use Rattle.iso_code.specs.declared.operands.Get.{Get}
 
@@ -44,6 +46,14 @@ abbrev pub IsNarrow : Operand → Type 0
 IsNarrow (Integer z) = is_short z ≡ true
 IsNarrow operand = Unit {0}
 
+-- The pair is what a block's arguments are, where so many blocks behind it are those of compounds in it, and where it
+-- says whether one of them is an integer of more than 64 bits.
+abbrev pub IsPair : List Operand → ℕ → Bool → Pair → Type 0
+IsPair operands inner wide (NewNew x y) = (inner ≡ 0) × (wide ≡ false) × (operands ≡ New x ∷ New y ∷ [])
+IsPair operands inner wide (OldNew x y) = (inner ≡ 0) × (wide ≡ false) × (operands ≡ Old x ∷ New y ∷ [])
+IsPair operands inner wide (NewOld x y) = (inner ≡ 0) × (wide ≡ false) × (operands ≡ New x ∷ Old y ∷ [])
+IsPair operands inner wide Other = Unit {0}
+
 -- A block that can be met and made: it has 1 to 255 arguments, and all that it names is there.
 pub record IsSound (names count compounds : ℕ) (b : Block) : Type 0 where
   pub name : b.name < names
@@ -51,6 +61,7 @@ pub record IsSound (names count compounds : ℕ) (b : Block) : Type 0 where
   pub few : length b.operands.items < 256
   pub inside : All (IsInside names count compounds) b.operands.items
   pub narrow : b.wide ≡ false → All IsNarrow b.operands.items
+  pub pair : IsPair b.operands.items b.inner b.wide b.pair
 
 -- the register is there, of so many arguments and compounds
 abbrev pub IsRegister : ℕ → ℕ → Register → Type 0

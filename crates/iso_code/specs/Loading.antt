@@ -22,7 +22,7 @@ use Rattle.iso_code.specs.declared.operands.Arguments.{Arguments}
 use Rattle.iso_code.specs.declared.loading.Side.{Side}
 use Rattle.iso_code.specs.declared.loading.Side.TheVariants as side
 use Rattle.iso_code.specs.Loaded as loaded
-use Rattle.iso_code.specs.Loaded.{part_at, block_at, get_at, operand_got, all_operands, IsInside, IsSound, IsOfCompound, IsSoundGet, AreSound}
+use Rattle.iso_code.specs.Loaded.{part_at, block_at, get_at, operand_got, all_operands, IsInside, IsSound, IsOfCompound, IsSoundGet, AreSound, IsPair}
 
 -- ---- what is compiled
 
@@ -135,6 +135,7 @@ module _ (names : List (List ℕ)) (low : ℕ) where
     pub operands : AllZip (IsLoaded s) b.parts.items l.operands.items
     pub inner : l.inner ≡ b.inner
     pub wide : SaysWidth l
+    pub pair : IsPair l.operands.items l.inner l.wide l.pair
 
   -- what meets an argument is what was compiled
   pub record IsLoadedGet (g : compiled_get.Get) (l : Get) : Type 0 where

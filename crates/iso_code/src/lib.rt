@@ -5,4 +5,4 @@ mod loading;
 mod operands;
 
 pub use loading::{load_arguments, load_fresh, load_head, load_part};
-pub use operands::{Arguments, Block, Get, Head, Operand, Register};
+pub use operands::{Arguments, Block, Get, Head, Operand, Pair, Register};

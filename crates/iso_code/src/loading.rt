@@ -7,9 +7,10 @@ ghost use Rattle.iso_store_core.specs.Retaining.{Retains};
 ghost use Rattle.iso_compile.specs.Heads as heads;
 ghost use Rattle.iso_compile.specs.Emitted.{AreNew, part_of, block_of, get_of};
 ghost use Rattle.iso_compile.specs.Emitting.{IsWithin};
+ghost use Rattle.iso_code.specs.Loaded.{IsPair};
 ghost use Rattle.iso_code.specs.Loading.{IsFrom, IsFull, IsAbove, IsLoadedArguments, IsLoaded, IsLoadedBlock, IsLoadedFresh, IsLoadedGet, IsLoadedHead, IsLoadedPart, IsNew, IsOfNew, is_wide, first_operand, register_in, behind_operand, behind_operands, behind_register, behind_blocks};
 
-use super::operands::{Arguments, Block, Get, Head, Operand, Register};
+use super::operands::{Arguments, Block, Get, Head, Operand, Pair, Register};
 use iso_compile::Part;
 use iso_model::NoMemory;
 use iso_store_core::Store;
@@ -103,6 +104,22 @@ fn load_register(low: usize, arity: usize, register: usize) -> Register
     }
 }
 
+/// What the operands are, where so many of the blocks behind are those of compounds among them, and where this says
+/// whether one of them is an integer of more than 64 bits.
+fn pair_of(operands: &[Operand], inner: usize, wide: bool) -> Pair
+    ensures { IsPair operands.now inner wide result }
+{
+    if inner != 0 || wide {
+        return Pair::Other;
+    }
+    match operands {
+        [Operand::New(one), Operand::New(two)] => Pair::NewNew(*one, *two),
+        [Operand::Old(one), Operand::New(two)] => Pair::OldNew(*one, *two),
+        [Operand::New(one), Operand::Old(two)] => Pair::NewOld(*one, *two),
+        _ => Pair::Other,
+    }
+}
+
 /// The block with names as atoms. The error is that memory was refused.
 fn load_block<S: Store>(
     alloc: Global,
@@ -120,12 +137,14 @@ fn load_block<S: Store>(
     let operands = load_operands(alloc, store, low, side, block.parts.as_slice())?;
     let name = store.intern(block.name.as_str())?;
     let wide = are_wide(operands.as_slice());
+    let pair = pair_of(operands.as_slice(), block.inner, wide);
     Ok(Block {
         register: load_register(low, arity, block.register),
         name,
         operands,
         inner: block.inner,
         wide,
+        pair,
     })
 }
 

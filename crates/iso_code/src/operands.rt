@@ -27,6 +27,19 @@ pub enum Register {
     Compound(usize),
 }
 
+/// What the arguments of a compound are where they are two variables that code meets by a way of its own.
+#[derive(Clone, Copy)]
+pub enum Pair {
+    /// The variables of these numbers, both for the first time.
+    NewNew(usize, usize),
+    /// The first one has a word.
+    OldNew(usize, usize),
+    /// The second one has a word.
+    NewOld(usize, usize),
+    /// Anything else.
+    Other,
+}
+
 /// A compound that a register has or gets, with its arguments. A compound in it has a block of its own behind this one.
 #[derive(Drop)]
 pub struct Block {
@@ -40,6 +53,8 @@ pub struct Block {
     pub inner: usize,
     /// Whether one of its arguments is an integer of more than 64 bits.
     pub wide: bool,
+    /// The two variables that its arguments are, where no block behind this one is that of a compound in it.
+    pub pair: Pair,
 }
 
 /// What an argument of a head is met with that is no compound.

@@ -13,9 +13,9 @@ ghost use Rattle.iso_machine_core.specs.Heads.{BeforeBlocks, Passes, MeetsBlocks
 
 use iso_cells::{Cells, Opened};
 use iso_code::{Block, Register};
-use iso_reading::read_operands;
+use iso_reading::read_block;
 use iso_store_core::StoreFault;
-use iso_writing::write_block;
+use iso_writing::write_group;
 
 /// The word that a register has.
 #[inline(always)]
@@ -60,17 +60,15 @@ fn meet_block<S: Cells>(
     let word = word_in(block.register, arguments, compounds);
     match store.open(word, block.name, block.operands.len()) {
         Opened::Read(compound) => {
-            let operands = block.operands.as_slice();
-            let met = read_operands(store, operands, compound, environment, compounds)?;
+            let met = read_block(store, block, compound, environment, compounds)?;
             Ok(if met { Some(0) } else { None })
         }
         Opened::Write(variable) => {
-            let inner = &behind[..block.inner];
-            let met = write_block(
+            let met = write_group(
                 store,
                 first,
                 block,
-                inner,
+                behind,
                 variable,
                 environment,
                 compounds,

@@ -5,4 +5,4 @@ mod gets;
 mod reading;
 
 pub use gets::meet_gets;
-pub use reading::{read_operand, read_operands};
+pub use reading::{read_block, read_operand, read_operands};

@@ -7,13 +7,13 @@ ghost use Rattle.iso_store_core.specs.Presents.{Holds, Grows, meaning};
 ghost use Rattle.iso_store_core.specs.Retaining.{RetainsAll};
 ghost use Rattle.iso_compile.specs.Orders.{part_cells, parts_cells};
 ghost use Rattle.iso_compile.specs.CodeLaws.{State};
-ghost use Rattle.iso_code.specs.Loaded.{IsInside, part_at};
+ghost use Rattle.iso_code.specs.Loaded.{IsInside, IsSound, part_at};
 ghost use Rattle.iso_code.specs.Standing.{Setting, files};
 ghost use Rattle.iso_reading.specs.Reading.{StandsReady, Begins, ReadsOne, Reads};
 ghost use Rattle.iso_code.specs.Standing.{Carries};
 
 use iso_cells::Cells;
-use iso_code::Operand;
+use iso_code::{Block, Operand, Pair};
 use iso_store_core::StoreFault;
 
 /// Reads an argument against an operand: a new variable and a compound take its word, anything else is unified with it
@@ -53,6 +53,7 @@ pub fn read_operand<S: Cells>(
 }
 
 /// The same, by a call: most operands are new variables, whose places take the word without one.
+#[cold]
 #[inline(never)]
 fn read_any<S: Cells>(
     store: &mut S,
@@ -88,9 +89,10 @@ fn read_any<S: Cells>(
     }
 }
 
-/// Reads the arguments one after the other.
+/// Reads the arguments of a word that was made as a compound of as many arguments as there are operands. False where
+/// they don't unify. The errors: the store is full, or memory was refused.
 #[inline(always)]
-fn read_each<S: Cells>(
+pub fn read_operands<S: Cells>(
     store: &mut S,
     operands: &[Operand],
     compound: S::Word,
@@ -121,34 +123,39 @@ fn read_each<S: Cells>(
     Ok(true)
 }
 
-/// Reads the arguments of a word that was made as a compound of as many arguments as there are operands. False where
-/// they don't unify. The errors: the store is full, or memory was refused.
+/// The same for the operands of a block.
 #[inline(always)]
-pub fn read_operands<S: Cells>(
+pub fn read_block<S: Cells>(
     store: &mut S,
-    operands: &[Operand],
+    block: &Block,
     compound: S::Word,
     environment: &mut [S::Word],
     compounds: &mut [S::Word],
 ) -> Result<bool, StoreFault>
     requires compound { Holds (S.present store.old) compound }
-    requires arity { arity ((S.present store.old).term compound) ≡ length operands.now }
-    requires inside { All (IsInside (length (S.names store.old)) (length environment.old) (length compounds.old)) operands.now }
-    requires begins { (arguments : List S.Word) × (t : Setting) × (met : ℕ → Bool) × (state : State) × (g : List ℕ) × (ws : Tree) × Begins (S.present store.old) (files environment.old arguments compounds.old) t met state compound operands.now g ws }
-    ensures reads { IfOk result (λ answer. Reads (S.names store.old) operands.now (S.present store.old) (S.present store.new) compound environment.old environment.new compounds.old compounds.new answer) }
+    requires arity { arity ((S.present store.old).term compound) ≡ length block.now.operands.items }
+    requires sound { IsSound (length (S.names store.old)) (length environment.old) (length compounds.old) block.now }
+    requires begins { (arguments : List S.Word) × (t : Setting) × (met : ℕ → Bool) × (state : State) × (g : List ℕ) × (ws : Tree) × Begins (S.present store.old) (files environment.old arguments compounds.old) t met state compound block.now.operands.items g ws }
+    ensures reads { IfOk result (λ answer. Reads (S.names store.old) block.now.operands.items (S.present store.old) (S.present store.new) compound environment.old environment.new compounds.old compounds.new answer) }
     ensures carries { IfOk result (λ answer. IsTrue answer → Carries (S.present store.old) (S.present store.new)) }
     ensures environment { length environment.new ≡ length environment.old }
     ensures compounds { length compounds.new ≡ length compounds.old }
-    ensures cells { Grows (S.present store.old) (S.present store.new) (parts_cells (map (part_at [] 0) operands.now)) 0 }
+    ensures cells { Grows (S.present store.old) (S.present store.new) (parts_cells (map (part_at [] 0) block.now.operands.items)) 0 }
     ensures full { result ≡ Err StoreFault.Full → S.full store.new }
     ensures rest { RetainsAll S.Store store.old store.new }
 {
-    match operands {
-        // Two variables, as in `[X|Xs]`: since it is known here that they are, this is compiled to code without a loop.
-        [Operand::New(one), Operand::New(two)] => {
-            let both = [Operand::New(*one), Operand::New(*two)];
-            read_each(store, &both, compound, environment, compounds)
+    match block.pair {
+        // Since the operands are known here, this is compiled to code without a loop.
+        Pair::NewNew(one, two) => {
+            let both = [Operand::New(one), Operand::New(two)];
+            read_operands(store, &both, compound, environment, compounds)
         }
-        _ => read_each(store, operands, compound, environment, compounds),
+        _ => read_operands(
+            store,
+            block.operands.as_slice(),
+            compound,
+            environment,
+            compounds,
+        ),
     }
 }

@@ -11,4 +11,4 @@ pub use flat::write_flat;
 pub use known::{write_all, write_known};
 pub use variables::{make_all_variables, make_variables};
 pub use wide::known_words;
-pub use writing::write_block;
+pub use writing::{write_block, write_group};

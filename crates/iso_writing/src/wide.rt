@@ -20,6 +20,7 @@ use iso_store_core::StoreFault;
 
 /// The word of the argument that an operand is, whose variable was met. This is a call, since most operands are
 /// variables, whose words are taken without one. The errors: the store is full, or memory was refused.
+#[cold]
 #[inline(never)]
 fn constant_or_compound<S: Cells>(
     store: &mut S,

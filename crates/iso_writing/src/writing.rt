@@ -1,5 +1,5 @@
 //! A compound of a head that meets an unbound variable: it is made, and the variable is bound to it.
-ghost use Rattle.std.specs.Prelude.{◌≡◌, ◌≤◌, ◌<◌, ◌+◌, ◌^◌, ℕ, Bool, List, IfOk, IsTrue, OnOk, [], ◌∷◌, length, true, false};
+ghost use Rattle.std.specs.Prelude.{◌≡◌, ◌≤◌, ◌<◌, ◌+◌, ◌^◌, ℕ, Bool, List, IfOk, IsTrue, OnOk, [], ◌∷◌, length, take, true, false};
 ghost use Rattle.std.specs.List.{All};
 ghost use Rattle.iso_model.specs.Terms.Trees.{Variable};
 ghost use Rattle.iso_store_core.specs.Presents.{Holds, Grows, IsUnification, meaning};
@@ -14,7 +14,7 @@ use super::flat::write_flat;
 use super::known::{write_all, write_known};
 use super::variables::{make_all_variables, make_variables};
 use iso_cells::Cells;
-use iso_code::{Block, Operand};
+use iso_code::{Block, Operand, Pair};
 use iso_store_core::StoreFault;
 
 /// Whether it shows without a search that the unbound variable does not occur in the argument that an operand is.
@@ -61,6 +61,7 @@ fn are_apart<S: Cells>(
 }
 
 /// Unifies a variable with a compound that was made, by a call: mostly it shows that the variable doesn't occur in it.
+#[cold]
 #[inline(never)]
 fn unify_made<S: Cells>(store: &mut S, variable: S::Word, made: S::Word) -> Result<bool, StoreFault>
     requires variable { Holds (S.present store.old) variable }
@@ -108,95 +109,12 @@ fn write_operands<S: Cells>(
     unify_made(store, variable, made)
 }
 
-/// The unbound variable is unified with the compound of a block without others in it.
-#[inline(always)]
-fn write_flat_block<S: Cells>(
-    store: &mut S,
-    first: u64,
-    block: &Block,
-    variable: S::Word,
-    environment: &mut [S::Word],
-    compounds: &mut [S::Word],
-) -> Result<bool, StoreFault>
-    requires stands { (f : Files S.Word) × (t : Setting) × (met : ℕ → Bool) × (state : State) × Stands (S.present store.old) f t met state
-        × (f.environment ≡ environment.old) × (f.compounds ≡ compounds.old) × (t.first ≡ first) × AreMarked met block.now.operands.items }
-    requires sound { IsSound (length (S.names store.old)) (length environment.old) (length compounds.old) block.now }
-    requires narrow { block.now.wide ≡ false }
-    requires variable { Holds (S.present store.old) variable }
-    requires unbound { (n : ℕ) × (meaning (S.present store.old) variable ≡ Variable n) }
-    requires numbers { (S.present store.old).next < 2 ^ 63 }
-    ensures writes { IfOk result (λ answer. WritesBlock (S.names store.old) block.now [] first (S.present store.old) (S.present store.new) variable environment.old environment.new compounds.old compounds.new answer) }
-    ensures count { length environment.new ≡ length environment.old }
-    ensures many { length compounds.new ≡ length compounds.old }
-    ensures carries { IfOk result (λ answer. IsTrue answer → Carries (S.present store.old) (S.present store.new)) }
-    ensures cells { Grows (S.present store.old) (S.present store.new) (length block.now.operands.items + 1) (news block.now.operands.items) }
-    ensures full { result ≡ Err StoreFault.Full → S.full store.new }
-    ensures rest { RetainsAll S.Store store.old store.new }
-{
-    match block.operands.as_slice() {
-        // Two variables, as in `[X|Xs]`: since their kinds are known here, this is compiled to code without a loop.
-        [Operand::New(one), Operand::New(two)] => {
-            let both = [Operand::New(*one), Operand::New(*two)];
-            write_operands(store, first, block, &both, variable, environment, compounds)
-        }
-        [Operand::New(one), Operand::Old(two)] => {
-            let both = [Operand::New(*one), Operand::Old(*two)];
-            write_operands(store, first, block, &both, variable, environment, compounds)
-        }
-        [Operand::Old(one), Operand::New(two)] => {
-            let both = [Operand::Old(*one), Operand::New(*two)];
-            write_operands(store, first, block, &both, variable, environment, compounds)
-        }
-        [Operand::Old(one), Operand::Old(two)] => {
-            let both = [Operand::Old(*one), Operand::Old(*two)];
-            write_operands(store, first, block, &both, variable, environment, compounds)
-        }
-        _ => write_any(store, first, block, variable, environment, compounds),
-    }
-}
-
-/// The same, by a call: most blocks are of two variables.
-#[inline(never)]
-fn write_any<S: Cells>(
-    store: &mut S,
-    first: u64,
-    block: &Block,
-    variable: S::Word,
-    environment: &mut [S::Word],
-    compounds: &mut [S::Word],
-) -> Result<bool, StoreFault>
-    requires stands { (f : Files S.Word) × (t : Setting) × (met : ℕ → Bool) × (state : State) × Stands (S.present store.old) f t met state
-        × (f.environment ≡ environment.old) × (f.compounds ≡ compounds.old) × (t.first ≡ first) × AreMarked met block.now.operands.items }
-    requires sound { IsSound (length (S.names store.old)) (length environment.old) (length compounds.old) block.now }
-    requires narrow { block.now.wide ≡ false }
-    requires variable { Holds (S.present store.old) variable }
-    requires unbound { (n : ℕ) × (meaning (S.present store.old) variable ≡ Variable n) }
-    requires numbers { (S.present store.old).next < 2 ^ 63 }
-    ensures writes { IfOk result (λ answer. WritesBlock (S.names store.old) block.now [] first (S.present store.old) (S.present store.new) variable environment.old environment.new compounds.old compounds.new answer) }
-    ensures count { length environment.new ≡ length environment.old }
-    ensures many { length compounds.new ≡ length compounds.old }
-    ensures carries { IfOk result (λ answer. IsTrue answer → Carries (S.present store.old) (S.present store.new)) }
-    ensures cells { Grows (S.present store.old) (S.present store.new) (length block.now.operands.items + 1) (news block.now.operands.items) }
-    ensures full { result ≡ Err StoreFault.Full → S.full store.new }
-    ensures rest { RetainsAll S.Store store.old store.new }
-{
-    let operands = block.operands.as_slice();
-    write_operands(
-        store,
-        first,
-        block,
-        operands,
-        variable,
-        environment,
-        compounds,
-    )
-}
-
 /// The unbound variable is unified with the compound of the first block; those behind it are of compounds in it, which
 /// are made first. Their variables that are met for the first time are numbered from `first` on by their numbers in the
 /// clause; their words are at their places from here on. The list of words is for those of arguments. False where the
 /// two don't unify. The errors: the store is full, or memory was refused.
-#[inline(always)]
+#[cold]
+#[inline(never)]
 pub fn write_block<S: Cells>(
     store: &mut S,
     first: u64,
@@ -224,51 +142,148 @@ pub fn write_block<S: Cells>(
     ensures rest { RetainsAll S.Store store.old store.new }
 {
     if inner.is_empty() && !block.wide {
-        return write_flat_block(store, first, block, variable, environment, compounds);
+        let operands = block.operands.as_slice();
+        return write_operands(
+            store,
+            first,
+            block,
+            operands,
+            variable,
+            environment,
+            compounds,
+        );
     }
-    write_nested(
-        store,
-        first,
-        block,
-        inner,
-        variable,
-        environment,
-        compounds,
-        words,
-    )
-}
-
-/// The same, by a call: most compounds have no others in them.
-#[inline(never)]
-fn write_nested<S: Cells>(
-    store: &mut S,
-    first: u64,
-    block: &Block,
-    inner: &[Block],
-    variable: S::Word,
-    environment: &mut [S::Word],
-    compounds: &mut [S::Word],
-    words: &mut Vec<S::Word>,
-) -> Result<bool, StoreFault>
-    requires stands { (f : Files S.Word) × (t : Setting) × (met : ℕ → Bool) × (state : State) × Stands (S.present store.old) f t met state
-        × (f.environment ≡ environment.old) × (f.compounds ≡ compounds.old) × (t.first ≡ first) × AreMarked met (all_operands (block.now ∷ inner.now)) }
-    requires sound { All (IsSound (length (S.names store.old)) (length environment.old) (length compounds.old)) (block.now ∷ inner.now) }
-    requires compounds { All (IsOfCompound (length compounds.old)) inner.now }
-    requires variable { Holds (S.present store.old) variable }
-    requires unbound { (n : ℕ) × (meaning (S.present store.old) variable ≡ Variable n) }
-    requires numbers { (S.present store.old).next < 2 ^ 63 }
-    ensures writes { IfOk result (λ answer. WritesBlock (S.names store.old) block.now inner.now first (S.present store.old) (S.present store.new) variable environment.old environment.new compounds.old compounds.new answer) }
-    ensures count { length environment.new ≡ length environment.old }
-    ensures many { length compounds.new ≡ length compounds.old }
-    ensures carries { IfOk result (λ answer. IsTrue answer → Carries (S.present store.old) (S.present store.new)) }
-    ensures cells { CountsCells S.Store → Grows (S.present store.old) (S.present store.new)
-        (cells_of_blocks (block.now ∷ inner.now) + news (all_operands (block.now ∷ inner.now))) (news (all_operands (block.now ∷ inner.now))) }
-    ensures full { result ≡ Err StoreFault.Full → S.full store.new }
-    ensures rest { RetainsAll S.Store store.old store.new }
-{
     make_variables(store, first, block.operands.as_slice(), environment)?;
     make_all_variables(store, first, inner, environment)?;
     write_all(store, inner, environment, compounds, words)?;
     let made = write_known(store, block, environment, compounds, words)?;
     store.unify(variable, made)
+}
+
+/// The same for a block of two variables, which are these operands.
+#[inline(always)]
+fn write_two<S: Cells>(
+    store: &mut S,
+    first: u64,
+    block: &Block,
+    behind: &[Block],
+    operands: &[Operand],
+    variable: S::Word,
+    environment: &mut [S::Word],
+    compounds: &mut [S::Word],
+) -> Result<bool, StoreFault>
+    requires same { operands.now ≡ block.now.operands.items }
+    requires none { block.now.inner ≡ 0 }
+    requires narrow { block.now.wide ≡ false }
+    requires stands { (f : Files S.Word) × (t : Setting) × (met : ℕ → Bool) × (state : State) × Stands (S.present store.old) f t met state
+        × (f.environment ≡ environment.old) × (f.compounds ≡ compounds.old) × (t.first ≡ first) × AreMarked met (all_operands (block.now ∷ (take block.now.inner behind.now))) }
+    requires sound { All (IsSound (length (S.names store.old)) (length environment.old) (length compounds.old)) (block.now ∷ (take block.now.inner behind.now)) }
+    requires compounds { All (IsOfCompound (length compounds.old)) (take block.now.inner behind.now) }
+    requires variable { Holds (S.present store.old) variable }
+    requires unbound { (n : ℕ) × (meaning (S.present store.old) variable ≡ Variable n) }
+    requires numbers { (S.present store.old).next < 2 ^ 63 }
+    ensures writes { IfOk result (λ answer. WritesBlock (S.names store.old) block.now (take block.now.inner behind.now) first (S.present store.old) (S.present store.new) variable environment.old environment.new compounds.old compounds.new answer) }
+    ensures count { length environment.new ≡ length environment.old }
+    ensures many { length compounds.new ≡ length compounds.old }
+    ensures carries { IfOk result (λ answer. IsTrue answer → Carries (S.present store.old) (S.present store.new)) }
+    ensures cells { CountsCells S.Store → Grows (S.present store.old) (S.present store.new)
+        (cells_of_blocks (block.now ∷ (take block.now.inner behind.now)) + news (all_operands (block.now ∷ (take block.now.inner behind.now)))) (news (all_operands (block.now ∷ (take block.now.inner behind.now)))) }
+    ensures full { result ≡ Err StoreFault.Full → S.full store.new }
+    ensures rest { RetainsAll S.Store store.old store.new }
+{
+    write_operands(
+        store,
+        first,
+        block,
+        operands,
+        variable,
+        environment,
+        compounds,
+    )
+}
+
+/// The same for a block and as many of those behind it as are of compounds in it. Most blocks are of two variables: since
+/// their kinds are known here, this is compiled to code without a loop.
+#[inline(always)]
+pub fn write_group<S: Cells>(
+    store: &mut S,
+    first: u64,
+    block: &Block,
+    behind: &[Block],
+    variable: S::Word,
+    environment: &mut [S::Word],
+    compounds: &mut [S::Word],
+    words: &mut Vec<S::Word>,
+) -> Result<bool, StoreFault>
+    requires within { block.now.inner ≤ length behind.now }
+    requires stands { (f : Files S.Word) × (t : Setting) × (met : ℕ → Bool) × (state : State) × Stands (S.present store.old) f t met state
+        × (f.environment ≡ environment.old) × (f.compounds ≡ compounds.old) × (t.first ≡ first) × AreMarked met (all_operands (block.now ∷ (take block.now.inner behind.now))) }
+    requires sound { All (IsSound (length (S.names store.old)) (length environment.old) (length compounds.old)) (block.now ∷ (take block.now.inner behind.now)) }
+    requires compounds { All (IsOfCompound (length compounds.old)) (take block.now.inner behind.now) }
+    requires variable { Holds (S.present store.old) variable }
+    requires unbound { (n : ℕ) × (meaning (S.present store.old) variable ≡ Variable n) }
+    requires numbers { (S.present store.old).next < 2 ^ 63 }
+    ensures writes { IfOk result (λ answer. WritesBlock (S.names store.old) block.now (take block.now.inner behind.now) first (S.present store.old) (S.present store.new) variable environment.old environment.new compounds.old compounds.new answer) }
+    ensures count { length environment.new ≡ length environment.old }
+    ensures many { length compounds.new ≡ length compounds.old }
+    ensures carries { IfOk result (λ answer. IsTrue answer → Carries (S.present store.old) (S.present store.new)) }
+    ensures cells { CountsCells S.Store → Grows (S.present store.old) (S.present store.new)
+        (cells_of_blocks (block.now ∷ (take block.now.inner behind.now)) + news (all_operands (block.now ∷ (take block.now.inner behind.now)))) (news (all_operands (block.now ∷ (take block.now.inner behind.now)))) }
+    ensures full { result ≡ Err StoreFault.Full → S.full store.new }
+    ensures rest { RetainsAll S.Store store.old store.new }
+{
+    match block.pair {
+        Pair::NewNew(one, two) => {
+            let both = [Operand::New(one), Operand::New(two)];
+            write_two(
+                store,
+                first,
+                block,
+                behind,
+                &both,
+                variable,
+                environment,
+                compounds,
+            )
+        }
+        Pair::OldNew(one, two) => {
+            let both = [Operand::Old(one), Operand::New(two)];
+            write_two(
+                store,
+                first,
+                block,
+                behind,
+                &both,
+                variable,
+                environment,
+                compounds,
+            )
+        }
+        Pair::NewOld(one, two) => {
+            let both = [Operand::New(one), Operand::Old(two)];
+            write_two(
+                store,
+                first,
+                block,
+                behind,
+                &both,
+                variable,
+                environment,
+                compounds,
+            )
+        }
+        Pair::Other => {
+            let inner = &behind[..block.inner];
+            write_block(
+                store,
+                first,
+                block,
+                inner,
+                variable,
+                environment,
+                compounds,
+                words,
+            )
+        }
+    }
 }

@@ -24,4 +24,5 @@ returns-clause-loaded g c =
           c.args.block.now.parts.items c.in_ok-operands.operands.items operands;
       inner = refl;
       wide = c.are_wide-wide.ensures ∙ ap (list_any is_wide) c.as_slice-2.ensures.value;
+      pair = rw c.as_slice-3.ensures.value at c.pair_of-pair.ensures;
     }

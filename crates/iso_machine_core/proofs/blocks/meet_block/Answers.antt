@@ -10,8 +10,8 @@ open-requires-clause-word g c =
     (register_is (g.S.Store.names c.args.store.now) (g.S.Store.present c.args.store.now) c.args.environment.now c.args.arguments.now c.args.compounds.now
     c.requires.before.0 c.requires.before.1 c.requires.before.2 c.args.block.now.register c.word_in-word.result before.ready c.word_in-word.ensures).holds
 
-pub read_operands-requires-clause-begins : goal.read_operands-requires-clause-begins
-read_operands-requires-clause-begins g c =
+pub read_block-requires-clause-begins : goal.read_block-requires-clause-begins
+read_block-requires-clause-begins g c =
     let many : c.len.result ≡ length c.args.block.now.operands.items = search rules in
     let opened = rw (c.in-Read.is, many) at c.open.ensures in
     let t = c.requires.before.0 in let met = c.requires.before.1 in let state = c.requires.before.2 in (
@@ -21,14 +21,13 @@ read_operands-requires-clause-begins g c =
       state,
       text_at (g.S.Store.names c.args.store.now) c.args.block.now.name,
       opened.2.arguments,
-      rw c.as_slice-operands.ensures.value (
-          begins (g.S.Store.names c.args.store.now) c.args.block.now c.args.behind.now c.args.first (g.S.Store.present c.args.store.now) (g.S.Store.present c.args.store.now)
+      begins (g.S.Store.names c.args.store.now) c.args.block.now c.args.behind.now c.args.first (g.S.Store.present c.args.store.now) (g.S.Store.present c.args.store.now)
           c.args.environment.now c.args.environment.now c.args.arguments.now c.args.compounds.now c.args.compounds.now c.word_in-word.result c.word_in-word.ensures
-          c.in-Read.compound opened.0 opened.1 opened.2 t met state c.requires.before.3),
+          c.in-Read.compound opened.0 opened.1 opened.2 t met state c.requires.before.3,
     )
 
-pub write_block-requires-clause-stands : goal.write_block-requires-clause-stands
-write_block-requires-clause-stands g c =
+pub write_group-requires-clause-stands : goal.write_group-requires-clause-stands
+write_group-requires-clause-stands g c =
     let opened = rw c.in-Write.is at c.open.ensures in
     let t = c.requires.before.0 in let met = c.requires.before.1 in let state = c.requires.before.2 in
     let before = c.requires.before.3 in (
@@ -45,8 +44,8 @@ write_block-requires-clause-stands g c =
           c.in-Write.variable opened.0 opened.1 opened.2.0 opened.2.1 t met state before,
     )
 
-pub write_block-requires-clause-sound : goal.write_block-requires-clause-sound
-write_block-requires-clause-sound g c = sound_group _ _ _ _ c.args.block.now c.args.behind.now c.args.block.now.inner c.requires.sound
+pub write_group-requires-clause-sound : goal.write_group-requires-clause-sound
+write_group-requires-clause-sound g c = sound_group _ _ _ _ c.args.block.now c.args.behind.now c.args.block.now.inner c.requires.sound
 
 pub returns-in_err-met-in-Write-clause-cells : goal.returns-in_err-met-in-Write-clause-cells
 returns-in_err-met-in-Write-clause-cells g c =
@@ -57,34 +56,34 @@ pub returns-then-met-clause-passes : goal.returns-then-met-clause-passes
 returns-then-met-clause-passes g c =
     let many : c.len.result ≡ length c.args.block.now.operands.items = search rules in
     let opened = rw (c.in-Read.is, many) at c.open.ensures in
-    let reads = rw (c.if-met.true, c.as_slice-operands.ensures.value) at c.in_ok-met-in-Read.ensures.reads in
-    read_passes (g.S.Store.names c.args.store.now) c.args.block.now c.args.behind.now c.args.first (g.S.Store.present c.args.store.now) (g.S.Store.present c.read_operands.new.store)
-    c.args.environment.now c.read_operands.new.environment c.args.arguments.now c.args.compounds.now c.read_operands.new.compounds c.word_in-word.result c.word_in-word.ensures
+    let reads = rw c.if-met.true at c.in_ok-met-in-Read.ensures.reads in
+    read_passes (g.S.Store.names c.args.store.now) c.args.block.now c.args.behind.now c.args.first (g.S.Store.present c.args.store.now) (g.S.Store.present c.read_block.new.store)
+    c.args.environment.now c.read_block.new.environment c.args.arguments.now c.args.compounds.now c.read_block.new.compounds c.word_in-word.result c.word_in-word.ensures
     c.in-Read.compound opened.0 opened.1 opened.2 reads
 
 pub returns-else-met-clause-passes : goal.returns-else-met-clause-passes
 returns-else-met-clause-passes g c =
     let many : c.len.result ≡ length c.args.block.now.operands.items = search rules in
     let opened = rw (c.in-Read.is, many) at c.open.ensures in
-    let reads = rw (c.if-met.false, c.as_slice-operands.ensures.value) at c.in_ok-met-in-Read.ensures.reads in
-    read_stops (g.S.Store.names c.args.store.now) c.args.block.now c.args.behind.now c.args.first (g.S.Store.present c.args.store.now) (g.S.Store.present c.read_operands.new.store)
-    c.args.environment.now c.read_operands.new.environment c.args.arguments.now c.args.compounds.now c.read_operands.new.compounds c.word_in-word.result c.word_in-word.ensures
+    let reads = rw c.if-met.false at c.in_ok-met-in-Read.ensures.reads in
+    read_stops (g.S.Store.names c.args.store.now) c.args.block.now c.args.behind.now c.args.first (g.S.Store.present c.args.store.now) (g.S.Store.present c.read_block.new.store)
+    c.args.environment.now c.read_block.new.environment c.args.arguments.now c.args.compounds.now c.read_block.new.compounds c.word_in-word.result c.word_in-word.ensures
     c.in-Read.compound opened.0 opened.1 opened.2 reads
 
 pub returns-then-met-2-clause-passes : goal.returns-then-met-2-clause-passes
 returns-then-met-2-clause-passes g c =
     let opened = rw c.in-Write.is at c.open.ensures in
     let writes = rw c.if-met-2.true at c.in_ok-met-in-Write.ensures.writes in
-    write_passes (g.S.Store.names c.args.store.now) c.args.block.now c.args.behind.now c.args.first (g.S.Store.present c.args.store.now) (g.S.Store.present c.write_block.new.store)
-    c.args.environment.now c.write_block.new.environment c.args.arguments.now c.args.compounds.now c.write_block.new.compounds c.word_in-word.result c.word_in-word.ensures
+    write_passes (g.S.Store.names c.args.store.now) c.args.block.now c.args.behind.now c.args.first (g.S.Store.present c.args.store.now) (g.S.Store.present c.write_group.new.store)
+    c.args.environment.now c.write_group.new.environment c.args.arguments.now c.args.compounds.now c.write_group.new.compounds c.word_in-word.result c.word_in-word.ensures
     c.in-Write.variable opened.0 opened.1 opened.2.0 opened.2.1 writes
 
 pub returns-else-met-2-clause-passes : goal.returns-else-met-2-clause-passes
 returns-else-met-2-clause-passes g c =
     let opened = rw c.in-Write.is at c.open.ensures in
     let writes = rw c.if-met-2.false at c.in_ok-met-in-Write.ensures.writes in
-    write_stops (g.S.Store.names c.args.store.now) c.args.block.now c.args.behind.now c.args.first (g.S.Store.present c.args.store.now) (g.S.Store.present c.write_block.new.store)
-    c.args.environment.now c.write_block.new.environment c.args.arguments.now c.args.compounds.now c.write_block.new.compounds c.word_in-word.result c.word_in-word.ensures
+    write_stops (g.S.Store.names c.args.store.now) c.args.block.now c.args.behind.now c.args.first (g.S.Store.present c.args.store.now) (g.S.Store.present c.write_group.new.store)
+    c.args.environment.now c.write_group.new.environment c.args.arguments.now c.args.compounds.now c.write_group.new.compounds c.word_in-word.result c.word_in-word.ensures
     c.in-Write.variable opened.0 opened.1 opened.2.0 opened.2.1 writes
 
 pub returns-in-Missed-clause-passes : goal.returns-in-Missed-clause-passes

@@ -5,7 +5,7 @@ use Rattle.iso_store_core.proofs.RetainLemmas.{grows_on, grows_most}
 use Rattle.iso_writing.specs.Pushing.{news, cells_of_block, cells_of_blocks}
 use Rattle.iso_writing.proofs.VariableLemmas.{makes_both, news_both}
 use Rattle.iso_writing.proofs.BlockLemmas.{begins_first, begins_others, compounds_hold, variables_held, first_held, others_make, sound_inside, block_unifies}
-use Rattle.iso_writing.proofs.writing.write_nested.Goals as goal
+use Rattle.iso_writing.proofs.writing.write_block.Goals as goal
 
 pub make_variables-requires-clause-stands : goal.make_variables-requires-clause-stands
 make_variables-requires-clause-stands g c =

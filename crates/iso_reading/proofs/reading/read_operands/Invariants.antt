@@ -5,7 +5,7 @@ use Rattle.iso_compile.specs.Orders.{parts_cells}
 use Rattle.iso_code.specs.Loaded.{part_at}
 use Rattle.iso_code.specs.Standing.{Carries}
 use Rattle.iso_reading.proofs.LoopLemmas.{ReadsTo}
-use Rattle.iso_reading.proofs.reading.read_each.Given as goal
+use Rattle.iso_reading.proofs.reading.read_operands.Given as goal
 
 abbrev pub invariant-loop-index : goal.invariant-loop-index
 invariant-loop-index g l = record {

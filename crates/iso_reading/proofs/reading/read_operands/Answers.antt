@@ -5,7 +5,7 @@ use Rattle.iso_compile.specs.Orders.{parts_cells}
 use Rattle.iso_code.specs.Loaded.{part_at}
 use Rattle.iso_code.proofs.CellLemmas.{taken_most, taken_one}
 use Rattle.iso_reading.proofs.LoopLemmas.{carried, reads_on, reads_none, reads_end, ready_here}
-use Rattle.iso_reading.proofs.reading.read_each.Goals as goal
+use Rattle.iso_reading.proofs.reading.read_operands.Goals as goal
 
 pub read_operand-requires-clause-ready : goal.read_operand-requires-clause-ready
 read_operand-requires-clause-ready g c =
