@@ -44,6 +44,38 @@ pub fn read_operand<S: Cells>(
             environment[*variable] = argument;
             Ok(true)
         }
+        Operand::Integer(value) => store.meet_integer(argument, *value),
+        Operand::Atom(name) => store.meet_atom(argument, *name),
+        _ => read_any(store, operand, argument, environment, compounds),
+    }
+}
+
+/// The same for an argument of a compound: most are new variables and compounds, whose places take the word.
+#[inline(always)]
+fn read_argument<S: Cells>(
+    store: &mut S,
+    operand: &Operand,
+    argument: S::Word,
+    environment: &mut [S::Word],
+    compounds: &mut [S::Word],
+) -> Result<bool, StoreFault>
+    requires argument { Holds (S.present store.old) argument }
+    requires inside { IsInside (length (S.names store.old)) (length environment.old) (length compounds.old) operand.now }
+    requires ready { (arguments : List S.Word) × StandsReady (S.present store.old) environment.old arguments compounds.old (operand.now ∷ []) }
+    ensures reads { IfOk result (λ answer. ReadsOne (S.names store.old) operand.now (S.present store.old) (S.present store.new) argument environment.old environment.new compounds.old compounds.new answer) }
+    ensures carries { IfOk result (λ answer. IsTrue answer → Carries (S.present store.old) (S.present store.new)) }
+    ensures environment { length environment.new ≡ length environment.old }
+    ensures compounds { length compounds.new ≡ length compounds.old }
+    ensures kept { (names count : ℕ) → IsInside names count 0 operand.now → compounds.new ≡ compounds.old }
+    ensures cells { Grows (S.present store.old) (S.present store.new) (part_cells (part_at [] 0 operand.now)) 0 }
+    ensures full { result ≡ Err StoreFault.Full → S.full store.new }
+    ensures rest { RetainsAll S.Store store.old store.new }
+{
+    match operand {
+        Operand::New(index) => {
+            environment[*index] = argument;
+            Ok(true)
+        }
         Operand::Inner(compound) => {
             compounds[*compound] = argument;
             Ok(true)
@@ -52,7 +84,7 @@ pub fn read_operand<S: Cells>(
     }
 }
 
-/// The same, by a call: most operands are new variables, whose places take the word without one.
+/// The same, by a call.
 #[cold]
 #[inline(never)]
 fn read_any<S: Cells>(
@@ -80,8 +112,8 @@ fn read_any<S: Cells>(
             Ok(true)
         }
         Operand::Old(variable) => store.unify(argument, environment[*variable]),
-        Operand::Integer(value) => store.meet_integer(argument, *value),
-        Operand::Atom(name) => store.meet_atom(argument, *name),
+        Operand::Integer(integer) => store.meet_integer(argument, *integer),
+        Operand::Atom(atom) => store.meet_atom(argument, *atom),
         Operand::Inner(number) => {
             compounds[*number] = argument;
             Ok(true)
@@ -115,7 +147,7 @@ pub fn read_operands<S: Cells>(
     let mut index = 0;
     while index < count {
         let argument = store.argument(compound, count, index);
-        if !read_operand(store, &operands[index], argument, environment, compounds)? {
+        if !read_argument(store, &operands[index], argument, environment, compounds)? {
             return Ok(false);
         }
         index += 1;

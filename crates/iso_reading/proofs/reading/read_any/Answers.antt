@@ -28,17 +28,17 @@ returns-in-Old-clause-reads g c =
 
 pub returns-in-Integer-clause-reads : goal.returns-in-Integer-clause-reads
 returns-in-Integer-clause-reads g c =
-    let fits : SFits w128 c.in-Integer.value = search rules in
-    let unified = rw (to_z-of_z w128 c.in-Integer.value fits) at c.meet_integer.ensures.unified in
+    let fits : SFits w128 c.in-Integer.integer = search rules in
+    let unified = rw (to_z-of_z w128 c.in-Integer.integer fits) at c.meet_integer.ensures.unified in
     if_ok_by c.meet_integer.result unified (λ answer h. rw c.in-Integer.is (
     integer_reads (g.S.Store.names c.args.store.now) (g.S.Store.present c.args.store.now) (g.S.Store.present c.meet_integer.new.self) (g.met.S.Store.untouched c.args.store.now)
-    c.args.environment.now c.args.compounds.now c.args.argument c.in-Integer.value answer h))
+    c.args.environment.now c.args.compounds.now c.args.argument c.in-Integer.integer answer h))
 
 pub returns-in-Atom-clause-reads : goal.returns-in-Atom-clause-reads
 returns-in-Atom-clause-reads g c =
     if_ok_by c.meet_atom.result c.meet_atom.ensures.unified (λ answer h. rw c.in-Atom.is (
     atom_reads (g.S.Store.names c.args.store.now) (g.S.Store.present c.args.store.now) (g.S.Store.present c.meet_atom.new.self) (g.met.S.Store.untouched c.args.store.now)
-    c.args.environment.now c.args.compounds.now c.args.argument c.in-Atom.name answer h))
+    c.args.environment.now c.args.compounds.now c.args.argument c.in-Atom.atom answer h))
 
 pub returns-in-Inner-clause-reads : goal.returns-in-Inner-clause-reads
 returns-in-Inner-clause-reads g c =
