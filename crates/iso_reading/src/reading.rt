@@ -17,8 +17,8 @@ use iso_code::{Block, Operand, Pair};
 use iso_store_core::StoreFault;
 
 /// Reads an argument against an operand: a new variable and a compound take its word, anything else is unified with it
-/// (`get_variable`, `get_value`, `get_constant`, and the same with `unify`). False where the two don't unify. The errors:
-/// the store is full, or memory was refused.
+/// (`get_variable`, `get_value`, `get_constant`, and the same with `unify`). False where the two don't unify. The
+/// errors: the store is full, or memory was refused.
 #[inline(always)]
 pub fn read_operand<S: Cells>(
     store: &mut S,

@@ -202,8 +202,8 @@ fn write_two<S: Cells>(
     )
 }
 
-/// The same for a block and as many of those behind it as are of compounds in it. Most blocks are of two variables: since
-/// their kinds are known here, this is compiled to code without a loop.
+/// The same for a block and as many of those behind it as are of compounds in it. Most blocks are of two variables.
+/// Code for these has no loop, since their kinds are known here.
 #[inline(always)]
 pub fn write_group<S: Cells>(
     store: &mut S,
