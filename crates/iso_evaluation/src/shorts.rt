@@ -93,7 +93,8 @@ fn short_expression<S: Store>(
     ensures value { (next : ℕ) (s : Subst) (ks : List expressions.Step) (zs : List ℤ)
         → StandFor (S.present store.now) environment.now next s
         → AllZip (IsStep (S.names store.now)) ks steps.now
-        → IfSome result (λ r. expressions.done next s (drop start ks) zs ≡ expressions.done next s (drop r.1 ks) (r.0 ∷ zs)) }
+        → IfSome result (λ r. expressions.done next s (drop start ks) zs
+        ≡ expressions.done next s (drop r.1 ks) (r.0 ∷ zs)) }
     ensures end { IfSome result (λ r. r.1 ≤ length steps.now) }
 {
     if start >= steps.len() {
@@ -121,7 +122,8 @@ pub(crate) fn short_value_left<S: Store>(
 ) -> Option<i64>
     requires steps { All (IsStepThere (length (S.names store.now)) (length environment.now)) steps.now }
     requires environment { All (Holds (S.present store.now)) environment.now }
-    ensures { (next : ℕ) (s : Subst) (ks : List expressions.Step) → StandFor (S.present store.now) environment.now next s
+    ensures { (next : ℕ) (s : Subst) (ks : List expressions.Step)
+        → StandFor (S.present store.now) environment.now next s
         → AllZip (IsStep (S.names store.now)) ks steps.now
         → IfSome result (λ z. expressions.done next s ks [] ≡ Ok (z ∷ [])) }
 {
@@ -143,9 +145,11 @@ pub(crate) fn holds_of_shorts<S: Store>(
 ) -> Option<bool>
     requires steps { All (IsStepThere (length (S.names store.now)) (length environment.now)) steps.now }
     requires environment { All (Holds (S.present store.now)) environment.now }
-    ensures { (next : ℕ) (s : Subst) (ks : List expressions.Step) → StandFor (S.present store.now) environment.now next s
+    ensures { (next : ℕ) (s : Subst) (ks : List expressions.Step)
+        → StandFor (S.present store.now) environment.now next s
         → AllZip (IsStep (S.names store.now)) ks steps.now
-        → IfSome result (λ answer. HoldsOfTwo (S.names store.now) comparison (Ok answer) (expressions.done next s ks [])) }
+        → IfSome result (λ answer. HoldsOfTwo (S.names store.now) comparison (Ok answer)
+        (expressions.done next s ks [])) }
 {
     let (left, middle) = short_expression(store, steps, environment, 0)?;
     let (right, end) = short_expression(store, steps, environment, middle)?;
