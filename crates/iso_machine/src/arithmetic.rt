@@ -1,19 +1,22 @@
 //! Arithmetic in line: evaluation and comparisons, in the code of a clause (8.6, 8.7).
-ghost use Rattle.std.specs.Prelude.{◌≡◌, ◌≢◌, ◌<◌, IfOk};
-ghost use Rattle.iso_model.specs.Search.Walker.{State};
+ghost use Rattle.std.specs.Prelude.{◌≡◌, ◌≢◌, ◌<◌, IfOk, List, Some, true};
+ghost use Rattle.iso_model.specs.Search.Walker.{State, Member};
 ghost use Rattle.iso_search_core.specs.declared.nows.Now.TheVariants as now;
 ghost use Rattle.iso_frames.specs.declared.frames.Next.TheVariants as next;
 ghost use Rattle.iso_environments.specs.Answering.{IsArithmeticThere};
 ghost use Rattle.iso_search.specs.EngineStates.{Represents};
 ghost use Rattle.iso_search.specs.Moved.{Moved};
-ghost use Rattle.iso_machine.specs.Arithmetic.{HasComputed};
+ghost use Rattle.iso_machine.specs.Arithmetic.{HasComputed, HasGone, StopsThere};
 ghost use Rattle.iso_machine.specs.Came.{CameTo, went_on};
 ghost use Rattle.iso_machine.specs.Engines.{framed};
+ghost use Rattle.iso_machine.specs.Firsts.{GoesOn};
+ghost use Rattle.iso_machine.specs.Lists.{IsList, extent_of};
 
 use super::framed::Framed;
 use iso_cells::Cells;
 use iso_environments::answer;
-use iso_frames::Rest;
+use iso_frames::{Frame, Next, Rest, Work};
+use iso_instructions::Instruction;
 use iso_lib_core::{Fault, Reply};
 use iso_model::Pause;
 use iso_search::search::{Move, Search};
@@ -65,6 +68,45 @@ pub(crate) fn compute<S: Cells + Drop>(
     go_on_from(search, answered, rest)
 }
 
+/// Whether the frame has an instruction there that does something: none that jumps, or that ends the clause.
+#[inline(always)]
+fn stops_there(frame: &Frame, address: usize) -> bool
+    requires { GoesOn frame.now.work address }
+    ensures { result ≡ true → StopsThere frame.now.work address }
+{
+    let Work::Clause(code, _) = &frame.work else {
+        return false;
+    };
+    match &code.body[address] {
+        Instruction::Proceed | Instruction::Jump(_) => false,
+        _ => true,
+    }
+}
+
+/// Goes on at the list from this place on, past jumps and frames whose clauses end.
+#[inline(never)]
+fn go_far<S: Cells + Drop>(search: &mut Search<S, Framed<S>>, place: Rest)
+    requires { (ms : List Member) × IsList S.atom_word (S.present search.old.store) search.old.lists
+        (extent_of search.old.lists) (Some place) ms }
+    ensures { HasGone S.Store S.atom_word search.old place search.new }
+{
+    search.now = search.coming(Some(place));
+}
+
+/// Goes on at the list from this place on.
+#[inline(always)]
+fn go_behind<S: Cells + Drop>(search: &mut Search<S, Framed<S>>, place: Rest)
+    requires { (ms : List Member) × IsList S.atom_word (S.present search.old.store) search.old.lists
+        (extent_of search.old.lists) (Some place) ms }
+    ensures { HasGone S.Store S.atom_word search.old place search.new }
+{
+    if stops_there(&search.lists.frames[place.frame], place.address) {
+        search.now = Now::Running(Next::Code(place));
+    } else {
+        go_far(search, place);
+    }
+}
+
 /// Goes on from what the arithmetic there came to: at the address below it, to failure, or to the ball that is thrown.
 /// The errors are those of the answer: the store is full, or memory was refused.
 fn go_on_from<S: Cells + Drop>(
@@ -79,13 +121,13 @@ fn go_on_from<S: Cells + Drop>(
         → CameTo S.Store S.atom_word e (went_on result) search.new }
     ensures steps { IfOk result (λ done. search.new.steps ≡ search.old.steps) }
 {
-    let behind = Some(Rest {
+    let behind = Rest {
         frame: rest.frame,
         address: rest.address - 1,
-    });
+    };
     match answered {
         Ok(Reply::Done) => {
-            search.now = search.coming(behind);
+            go_behind(search, behind);
             Ok(())
         }
         Ok(Reply::Fail) => {
@@ -93,7 +135,7 @@ fn go_on_from<S: Cells + Drop>(
             Ok(())
         }
         Err(fault) => {
-            search.behind_fault(fault, behind)?;
+            search.behind_fault(fault, Some(behind))?;
             Ok(())
         }
     }

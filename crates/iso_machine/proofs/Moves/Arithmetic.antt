@@ -1,9 +1,10 @@
 -- The move at arithmetic in the code of a clause.
-use Rattle.std.proofs.Common.{◌≡◌, ◌≢◌, ℕ, zero, suc, get_or, ◌<◌, ◌≤◌, ◌+◌, ◌-◌, List, ◌∷◌, Option, Some, Result, Ok, Err, refl, sym, ap, ◌∙◌, subst, arith, true}
+use Rattle.std.proofs.Common.{◌≡◌, ◌≢◌, ℕ, zero, suc, get_or, ◌<◌, ◌≤◌, ◌+◌, ◌-◌, List, ◌∷◌, length, Option, Some, Result, Ok, Err, refl, sym, ap, ◌∙◌, subst, arith, true}
 use Rattle.std.specs.Prelude.{Vec, ℤ}
 use Rattle.std.specs.Global.{Global}
 use Rattle.std.specs.declared.rc.Rc.{Rc}
-use Rattle.std.proofs.lemmas.Option.{get_or_from_slice_get}
+use Rattle.std.specs.List.{slice_get}
+use Rattle.std.proofs.lemmas.Option.{get_or_from_slice_get, slice_get_read}
 use Rattle.iso_atoms.specs.Texts.{KeepsTexts}
 use Rattle.iso_model.specs.Terms.Trees.{Tree, arities_fit}
 use Rattle.iso_model.specs.Terms.TermOf.{term_of}
@@ -42,6 +43,8 @@ use Rattle.iso_search_core.proofs.CellLemmas.{answer_counts}
 use Rattle.iso_search_core.proofs.StandingLemmas.{keeps_none}
 use Rattle.iso_instructions.specs.declared.instructions.Code.{Code}
 use Rattle.iso_instructions.specs.declared.instructions.Instruction.{Instruction}
+use Rattle.iso_instructions.specs.declared.instructions.Instruction.TheVariants.{Proceed, Jump}
+use Rattle.iso_frames.specs.Running.{Stops}
 use Rattle.iso_frames.specs.declared.frames.Rest.{Rest}
 use Rattle.iso_frames.specs.declared.frames.Frame.{Frame}
 use Rattle.iso_frames.specs.declared.frames.Next.{Next}
@@ -68,7 +71,10 @@ use Rattle.iso_search.proofs.StoppedLemmas.{keeps_all, keeps_more}
 use Rattle.iso_search.proofs.WorldLemmas.{same_texts}
 use Rattle.iso_search.proofs.Moves.Value.{IsAtValue, TookStepAt, took_step, value_fails, value_holds, value_raises, value_refused_reply, value_spends, value_unbound}
 use Rattle.iso_machine.specs.declared.framed.Framed.{Framed}
-use Rattle.iso_machine.specs.Arithmetic.{HasComputed}
+use Rattle.iso_frames.specs.declared.frames.Work.{Work}
+use Rattle.iso_frames.specs.declared.frames.Work.TheVariants.{Clause, Member as OneMember}
+use Rattle.iso_machine.specs.Arithmetic.{HasComputed, StopsThere}
+use Rattle.iso_machine.specs.Firsts.{IsFirstOf}
 use Rattle.iso_machine.specs.Came.{CameTo}
 use Rattle.iso_machine.specs.Lists.{IsList, KeepsFrames, as_much, cost_at, extent_of, list_more, list_words, stack_of}
 use Rattle.iso_machine.specs.Engines.{Engine, framed}
@@ -76,6 +82,27 @@ use Rattle.iso_machine.proofs.FrameLemmas.{adds_keeps, adds_same, stacked_same}
 use Rattle.iso_machine.specs.Wholes.{whole_chain, whole_list}
 use Rattle.iso_machine.proofs.Moves.Instruction.{code_ahead}
 use Rattle.iso_machine.proofs.Moves.Went.{came_moved, came_refused}
+
+some_same : {x y : Instruction} → Some x ≡ Some y → x ≡ y
+some_same h = cc
+
+-- an instruction that was read does something
+pub stops_read : (code value : Code) (a : ℕ) (i : Instruction) → value ≡ code → a < length code.body.items → i ≡ get_or value.body.items a i
+    → (i ≡ Proceed → ⊥) → ((l : ℕ) → i ≡ Jump l → ⊥) → Stops code a
+stops_read code value a i same inside read none on =
+    let there : slice_get code.body.items a ≡ Some i =
+    slice_get_read code.body.items (length code.body.items) a i refl inside (subst (λ (x : Code). i ≡ get_or x.body.items a i) same read) in
+    record {
+      inside = inside;
+      proceed = λ is. none (some_same (sym there ∙ is));
+      jump = λ l is. on l (some_same (sym there ∙ is));
+    }
+
+-- what does something comes first of its frame
+pub stops_first : (W : Type 0) (f : Frame) (r : Rest) (w : Work) → StopsThere w r.address → IsFirstOf {W = W} f r w (Some (next.Code r))
+stops_first W f r (Clause code level) stops = λ b ls remains.
+    record { address = r.address; is = refl; remains = remains; stops = stops; below = omega arith; cells = refl }
+stops_first W f r (OneMember todo) stops = absurd stops
 
 -- ---- the list behind the goal
 

@@ -1,4 +1,7 @@
-use Rattle.std.proofs.Common.{rules, ◌≡◌, ap, ◌∙◌, Ok, Err}
+use Rattle.std.proofs.Common.{rules, ◌≡◌, ap, sym, subst, ◌∙◌, Ok, Err}
+use Rattle.iso_search.specs.declared.calls.Next.TheVariants as calls
+use Rattle.iso_machine.specs.Came.{CameTo}
+use Rattle.iso_machine.specs.Engines.{Engine}
 use Rattle.iso_lib_core.specs.declared.outcomes.Reply.TheVariants as outcome
 use Rattle.iso_machine.proofs.Moves.Arithmetic.{ball_fits, chain, done_list, done_moved, fail_moved, fault_came, fault_steps, goes_below, has_answered, some_above, thrown_came}
 use Rattle.iso_machine.proofs.Moves.Went.{came_moved, went_not}
@@ -14,8 +17,8 @@ overflow_sub-behind g c =
 
 -- ---- it succeeded
 
-pub coming-search-requires : goal.coming-search-requires
-coming-search-requires g c =
+pub go_behind-requires : goal.go_behind-requires
+go_behind-requires g c =
     let has = c.requires.1 in
     let s = c.requires.2 in
     let is : c.args.answered ≡ Ok outcome.Done = search rules in (
@@ -26,9 +29,10 @@ coming-search-requires g c =
 pub returns-in-Ok-Done-clause-came : goal.returns-in-Ok-Done-clause-came
 returns-in-Ok-Done-clause-came g c = λ e s has stands.
     (let is : c.args.answered ≡ Ok outcome.Done = search rules in
-    came_moved g.S.Store g.S.Cells.atom_word (done_moved g.S.Store g.S.Cells.atom_word has s stands is
-    c.coming-search.result c.coming-search.ensures.behind c.coming-search.ensures.cost c.coming-search.ensures.awake
-    (search rules)))
+    let gone = c.go_behind.ensures in
+    subst (λ (x : Engine _ _ _). CameTo g.S.Store g.S.Cells.atom_word e (Ok calls.Went) x) (sym gone.same)
+    (came_moved g.S.Store g.S.Cells.atom_word (done_moved g.S.Store g.S.Cells.atom_word has s stands is
+    c.go_behind.new.search.now gone.behind gone.cost gone.awake (search rules))))
 
 -- ---- it failed
 
