@@ -1,4 +1,5 @@
 pub mod Arithmetic
+pub mod BuiltIn
 pub mod Cut
 pub mod Entered
 pub mod Framed

@@ -1,4 +1,5 @@
 pub mod Arithmetic
+pub mod BuiltIns
 pub mod Came
 pub mod Engines
 pub mod Entered

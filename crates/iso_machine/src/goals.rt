@@ -23,6 +23,7 @@ ghost use Rattle.iso_machine.specs.Engines.{Engine, framed};
 ghost use Rattle.iso_machine.specs.GoalCalls.{IsCallPut, goal_put};
 
 use super::arithmetic::compute;
+use super::built_ins::{goal_fails, run_library};
 use super::calling::Gone;
 use super::control::cut_back;
 use super::framed::Framed;
@@ -33,7 +34,7 @@ use iso_cells::Cells;
 use iso_db::{ClauseId, KeyedView};
 use iso_environments::{Put, Words};
 use iso_frames::{Next as First, Rest};
-use iso_model::NoMemory;
+use iso_model::{BuiltIn, NoMemory};
 use iso_search::calls::{Called, Next, NextGoal};
 use iso_search::search::Search;
 use iso_search_core::goals::read_arguments;
@@ -153,8 +154,9 @@ fn call_atom<S: Cells + Drop>(
     call_word(search, goal, put.behind, asked)
 }
 
-/// Leaves the goal whose arguments were put, which calls this and no clause now: it comes first as a word. The errors:
-/// the store is full, or memory was refused.
+/// Does the goal whose arguments were put, which calls this and no clause now, where it fails as it is or is one of a
+/// built-in that runs no other goal, and a step is left; any other comes first as a word, and is left. The errors: the
+/// store is full, or memory was refused.
 fn leave_goal<S: Cells + Drop>(
     search: &mut Search<S, Framed<S>>,
     put: Put,
@@ -165,7 +167,10 @@ fn leave_goal<S: Cells + Drop>(
     requires { (old : Engine S S.Word S.Mark) × (whole : Engine S S.Word S.Mark) × (s : State)
         × Represents S.Store (framed S.atom_word) whole s × IsBehindCalls S.Store S.atom_word old whole went
         × IsCallPut S.Store S.atom_word whole search.old put.name put.behind
-        (compound_cells (length search.old.lists.arguments.items)) }
+        (compound_cells (length search.old.lists.arguments.items))
+        × ((later : KeyedView) × ((w : World) → IsWorld S.Store (framed S.atom_word) search.old w
+        → IsCalled (leaves_of S.Store (framed S.atom_word) search.old) later w
+        (goal_put S.Store S.atom_word search.old put.name) called)) }
     ensures { (old : Engine S S.Word S.Mark) (whole : Engine S S.Word S.Mark) (s : State) (later : KeyedView)
         → Represents S.Store (framed S.atom_word) whole s → IsBehindCalls S.Store S.atom_word old whole went
         → IsCallPut S.Store S.atom_word whole search.old put.name put.behind
@@ -176,11 +181,21 @@ fn leave_goal<S: Cells + Drop>(
         → (search.old.steps ≢ 0 → (clause : ℕ) → called ≢ call.User clause)
         → Came S.Store S.atom_word old result asked.new search.new }
 {
-    if went {
-        show_goal(search, put.name, put.behind)?;
-        return Ok(Next::Went);
+    match called {
+        Called::Fails if search.steps != 0 => {
+            goal_fails(search);
+            Ok(Next::Went)
+        }
+        Called::BuiltIn(BuiltIn::Library(row)) if search.steps != 0 => {
+            run_library(search, row, put)?;
+            Ok(Next::Went)
+        }
+        _ if went => {
+            show_goal(search, put.name, put.behind)?;
+            Ok(Next::Went)
+        }
+        _ => show_next(search, put.name, put.behind, called, asked),
     }
-    show_next(search, put.name, put.behind, called, asked)
 }
 
 /// The place of the instruction that comes first, where one does.

@@ -2,6 +2,7 @@
 #![tactic(auto)]
 
 mod arithmetic;
+mod built_ins;
 mod callers;
 mod calling;
 mod control;

@@ -161,7 +161,7 @@ module _ {S W M : Type 0} (atom_word : ℕ → W) {p : Present W} (l : Framed S 
 
 module _ {S W M : Type 0} (g : Ghosts S W M) (atom_word : ℕ → W) (mid new : Engine S W M) where
   -- where a ball is thrown the engine goes on
-  thrown_goes : (f : Fault) (place : Option Rest) (m : Move) → Throws g (framed atom_word) mid f place (Ok m) new
+  pub thrown_goes : (f : Fault) (place : Option Rest) (m : Move) → Throws g (framed atom_word) mid f place (Ok m) new
       → m ≡ move.Goes
   thrown_goes (fault.Raise ball) place m throws =
       let goes = throws.0 in

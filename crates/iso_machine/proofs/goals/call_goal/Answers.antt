@@ -72,7 +72,18 @@ pub leave_goal-requires : goal.leave_goal-requires
 leave_goal-requires g c =
     let h = c.loop-put.invariant in
     let put = c.in_ok-put.ensures.put h.frames h.rest h.state h.at h.stands in
-    (c.args.search.now, whole g.S.Store g.S.Cells.atom_word h, h.state, h.stands, h.from, put)
+    let same : c.in_default.called ≡ c.called_put-called.result = elim c.in_default.branch [
+      | in_default-via-in-User+else-search-ne0 w ↦ w.called-is ∙ sym w.in-User.is
+      | in_default-via-in_default w ↦ w.called-is
+    ] in (
+      c.args.search.now,
+      whole g.S.Store g.S.Cells.atom_word h,
+      h.state,
+      h.stands,
+      h.from,
+      put,
+      (c.called_put-called.new.later, rw same c.called_put-called.ensures),
+    )
 
 pub returns-in_default : goal.returns-in_default
 returns-in_default g c =
