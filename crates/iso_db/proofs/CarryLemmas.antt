@@ -24,7 +24,7 @@ use Rattle.iso_clauses.specs.declared.slots.Label.{Label}
 use Rattle.iso_clauses.specs.declared.slots.Slot.{Slot}
 use Rattle.iso_clauses.specs.declared.views.View.{View}
 use Rattle.iso_db.proofs.KeyedLemmas.{gives_stand}
-use Rattle.iso_clauses.proofs.ListLemmas.{slice_get-push_before, slice_get-push_last}
+use Rattle.iso_db.proofs.ListLemmas.{slice_get-push_before, slice_get-pushed_before, slice_get-pushed_last}
 use Rattle.iso_clauses.proofs.LabelLemmas.{label_there, KeepsLabels}
 use Rattle.iso_clauses.proofs.AddLemmas.{new_slot, label-new, labels-before, value_at-before, IsKept-add}
 use Rattle.iso_db.proofs.PartLemmas.{part_named}
@@ -146,10 +146,10 @@ module _ {C : Type 0} where
     where
       -- a part among these is the new one, or was there
       told : (i : ℕ) (p : Part) → slice_get (parts ++ part ∷ []) i ≡ Some p → (i ≡ length parts → ⊥) → slice_get parts i ≡ Some p
-      told i p at other = sym (slice_get-push_before parts part i (omega (arith, slice_get_within (parts ++ part ∷ []) i p at, length-append parts (part ∷ []), other))) ∙ at
+      told = slice_get-pushed_before parts part
 
       newest : (i : ℕ) (p : Part) → slice_get (parts ++ part ∷ []) i ≡ Some p → i ≡ length parts → part ≡ p
-      newest i p at is = same_Some part p (sym (slice_get-push_last parts part) ∙ ap (slice_get (parts ++ part ∷ [])) (sym is) ∙ at)
+      newest = slice_get-pushed_last parts part
 
       last : ((n : ℕ) → slice_get parts n ≢ Some part) → (i j : ℕ) (p : Part) → slice_get (parts ++ part ∷ []) i ≡ Some p → slice_get (parts ++ part ∷ []) j ≡ Some p → i ≡ j
       last absent i j p at_i at_j =

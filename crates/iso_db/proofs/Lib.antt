@@ -6,6 +6,7 @@ pub mod BecomeLemmas
 pub mod OwnerLemmas
 pub mod KeyLemmas
 pub mod PartLemmas
+pub mod NumberLemmas
 pub mod CarryLemmas
 pub mod KeyedLemmas
 pub mod BeginLemmas

@@ -1,5 +1,5 @@
 -- The parts of procedures: of each its clauses with the same key, and those without.
-use Rattle.std.specs.Prelude.{◌≡◌, ◌≢◌, ◌⊎◌, ◌++◌, ◌∷◌, [], ℕ, List, Some, length}
+use Rattle.std.specs.Prelude.{◌≡◌, ◌≢◌, ◌⊎◌, ◌++◌, ◌∷◌, [], ℕ, List, Option, Some, None, length, get_or}
 use Rattle.std.specs.List.{slice_get}
 use Rattle.iso_clauses.specs.Blocks.{Kept, nothing_kept}
 use Rattle.iso_clauses.specs.Slots.{label_at, part_of}
@@ -12,6 +12,11 @@ use Rattle.iso_clauses.specs.declared.slots.Slot.{Slot}
 abbrev pub Opens : Part → List Part → List Kept → List Part → List Kept → Type 0
 Opens part parts lists wider longer =
     ((wider ≡ parts) × (longer ≡ lists)) ⊎ ((wider ≡ parts ++ part ∷ []) × (longer ≡ lists ++ nothing_kept ∷ []) × ((n : ℕ) → slice_get parts n ≢ Some part))
+
+-- At the place of each procedure stands the number of its part without a key, and no number where it has none.
+pub record IsNumbered (numbers : List (Option ℕ)) (parts : List Part) : Type 0 where
+  pub each : (place n : ℕ) → slice_get parts n ≡ Some (record { place = place; key = None }) → get_or numbers place None ≡ Some n
+  pub no_other : (place n : ℕ) → get_or numbers place None ≡ Some n → slice_get parts n ≡ Some (record { place = place; key = None })
 
 module _ {C : Type 0} where
   -- What holds of the parts of procedures as they are kept, each with its list of clauses.

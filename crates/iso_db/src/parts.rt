@@ -1,5 +1,5 @@
 //! The parts of procedures: of each its clauses with the same key, and those without.
-ghost use Rattle.std.specs.Prelude.{◌≡◌, ◌≢◌, ◌++◌, ◌∷◌, [], ℕ, Some, IfSome, IfNone, OnOk, OnErr};
+ghost use Rattle.std.specs.Prelude.{◌≡◌, ◌≢◌, ◌<◌, ◌++◌, ◌∷◌, [], ℕ, Some, None, IfSome, IfNone, OnOk, OnErr, length, get_or};
 ghost use Rattle.std.specs.List.{slice_get};
 
 use indexmap::IndexSet;
@@ -18,6 +18,8 @@ pub(crate) struct Part {
 #[derive(Drop)]
 pub(crate) struct Parts {
     known: IndexSet<Part>,
+    /// At the place of each procedure the number of its part without a key, if it has one.
+    without_key: Vec<Option<usize>>,
 }
 
 impl Model for Parts {
@@ -26,7 +28,22 @@ impl Model for Parts {
 
     ghost Value = { List Part };
 
+    ghost use Rattle.iso_db.specs.Parts.{IsNumbered};
+
     ghost view = { λ p. p.known.keys };
+
+    ghost invariant = { λ p. IsNumbered p.without_key.items p.known.keys };
+}
+
+/// Makes the numbers reach this place; there is none at the places that come. The error is that memory was refused.
+fn reach(numbers: &mut Vec<Option<usize>>, place: usize) -> Result<(), AllocError>
+    ensures within { OnOk result (place < length numbers.new.items) }
+    ensures same { (p : ℕ) → get_or numbers.new.items p None ≡ get_or numbers.old.items p None }
+{
+    if place >= numbers.len() {
+        numbers.resize(place.saturating_add(1), None)?;
+    }
+    Ok(())
 }
 
 impl Parts {
@@ -36,17 +53,42 @@ impl Parts {
     {
         Parts {
             known: IndexSet::new(alloc),
+            without_key: Vec::new(alloc),
         }
     }
 
-    /// The number of this part. Takes no memory.
+    /// The number of this part, by its hash. Takes no memory.
     #[inline(never)]
-    pub(crate) fn find(&self, place: usize, key: Option<FirstKey>) -> Option<usize>
+    fn find_by_hash(&self, place: usize, key: Option<FirstKey>) -> Option<usize>
         ensures found { IfSome result (λ n. slice_get self.now n ≡ Some (record { place = place; key = key })) }
         ensures absent { IfNone result ((n : ℕ) → slice_get self.now n ≢ Some (record { place = place; key = key })) }
     {
         let part = Part { place, key };
         self.known.get_index_of(&part)
+    }
+
+    /// The number of this procedure's part without a key. Takes no memory, and no hash.
+    #[inline(always)]
+    fn find_without_key(&self, place: usize) -> Option<usize>
+        ensures found { IfSome result (λ n. slice_get self.now n ≡ Some (record { place = place; key = None })) }
+        ensures absent { IfNone result ((n : ℕ) → slice_get self.now n ≢ Some (record { place = place; key = None })) }
+    {
+        if place >= self.without_key.len() {
+            return None;
+        }
+        self.without_key[place]
+    }
+
+    /// The number of this part. Takes no memory.
+    #[inline(always)]
+    pub(crate) fn find(&self, place: usize, key: Option<FirstKey>) -> Option<usize>
+        ensures found { IfSome result (λ n. slice_get self.now n ≡ Some (record { place = place; key = key })) }
+        ensures absent { IfNone result ((n : ℕ) → slice_get self.now n ≢ Some (record { place = place; key = key })) }
+    {
+        if key.is_none() {
+            return self.find_without_key(place);
+        }
+        self.find_by_hash(place, key)
     }
 
     /// Adds a part that has no number yet, behind the others. The error is that memory was refused; nothing changed
@@ -56,7 +98,14 @@ impl Parts {
         ensures added { OnOk result (self.new ≡ self.old ++ record { place = place; key = key } ∷ []) }
         ensures unchanged { OnErr result (self.new ≡ self.old) }
     {
+        if key.is_some() {
+            self.known.insert(Part { place, key })?;
+            return Ok(());
+        }
+        reach(&mut self.without_key, place)?;
+        let number = self.known.len();
         self.known.insert(Part { place, key })?;
+        self.without_key[place] = Some(number);
         Ok(())
     }
 }

@@ -4,7 +4,7 @@ use Rattle.std.specs.List.{slice_get}
 use Rattle.std.specs.Option.{IfSome, IfNone}
 use Rattle.iso_db.specs.declared.parts.Part.{Part}
 use Rattle.iso_db.proofs.KeyLemmas.{if_found, if_absent}
-use Rattle.iso_db.proofs.parts.Parts.find.Goals as goal
+use Rattle.iso_db.proofs.parts.Parts.find_by_hash.Goals as goal
 
 pub returns-clause-found : goal.returns-clause-found
 returns-clause-found c =
