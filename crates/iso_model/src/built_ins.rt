@@ -236,15 +236,12 @@ pub fn built_in_rows() -> &'static [Row]
 fn among(rows: &[Row], name: &str, arity: usize) -> Option<BuiltIn>
     ensures { result ≡ table.built_in_among (entries_of rows.now) (key name.now arity) }
 {
-    match rows {
-        [] => None,
-        [first, others @ ..] => {
-            if first.1 == arity && first.0 == name {
-                return Some(first.2);
-            }
-            among(others, name, arity)
+    for row in rows {
+        if row.1 == arity && row.0 == name {
+            return Some(row.2);
         }
     }
+    None
 }
 
 /// The built-in of this name and arity, where there is one.
