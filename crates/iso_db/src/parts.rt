@@ -67,7 +67,7 @@ impl Parts {
         self.known.get_index_of(&part)
     }
 
-    /// The number of this procedure's part without a key. Takes no memory, and no hash.
+    /// The number of the part without a key of the procedure at this place. Takes no memory, and makes no hash.
     #[inline(always)]
     fn find_without_key(&self, place: usize) -> Option<usize>
         ensures found { IfSome result (λ n. slice_get self.now n ≡ Some (record { place = place; key = None })) }
