@@ -27,9 +27,11 @@ fn pair(alloc: Global, name: Atom, first: &Pattern, second: &Pattern) -> Result<
         → IsPatternOf names second.now u
         → IfOk result (λ pair. IsPatternOf names pair (two (text_at names name) t u)) }
 {
-    let mut parts = Vec::new(alloc);
-    parts.extend_from_slice(first.parts.as_slice())?;
-    parts.extend_from_slice(second.parts.as_slice())?;
+    let (first, second) = (first.parts.as_slice(), second.parts.as_slice());
+    let count = first.len().saturating_add(second.len()).saturating_add(1);
+    let mut parts = Vec::with_capacity(alloc, count)?;
+    parts.extend_from_slice(first)?;
+    parts.extend_from_slice(second)?;
     parts.push(Part::Compound(name, 2))?;
     Ok(Pattern { parts })
 }

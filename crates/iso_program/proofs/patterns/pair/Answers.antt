@@ -20,12 +20,12 @@ invariant_of-result c =
     let ks = c.args.first.now.parts.items in
     let ls = c.args.second.now.parts.items in
     let exact = pair_exact first.0 second.0 ks ls first.1 second.1 c.args.name c.args.first.now.exact first.2 c.args.second.now.exact second.2 in
-    let all = all_parts ks ls _ _ _ _ _ _ (Compound c.args.name 2) c.new-parts.ensures.items c.in_ok-extend_from_slice.ensures.items c.as_slice.ensures.value c.in_ok-extend_from_slice-2.ensures.items c.as_slice-2.ensures.value c.in_ok-push.ensures.items in
+    let all = all_parts ks ls _ _ _ _ _ _ (Compound c.args.name 2) c.in_ok-parts.ensures.items c.in_ok-extend_from_slice.ensures.items c.as_slice-first.ensures.value c.in_ok-extend_from_slice-2.ensures.items c.as_slice-second.ensures.value c.in_ok-push.ensures.items in
     record { exact = subst (λ ps. are_exact ps 0 ≡ true) (sym all) exact }
 
 pub returns : goal.returns
 returns c = λ names t u named first second.
     (let ks = c.args.first.now.parts.items in
     let ls = c.args.second.now.parts.items in
-    let all = all_parts ks ls _ _ _ _ _ _ (Compound c.args.name 2) c.new-parts.ensures.items c.in_ok-extend_from_slice.ensures.items c.as_slice.ensures.value c.in_ok-extend_from_slice-2.ensures.items c.as_slice-2.ensures.value c.in_ok-push.ensures.items in
+    let all = all_parts ks ls _ _ _ _ _ _ (Compound c.args.name 2) c.in_ok-parts.ensures.items c.in_ok-extend_from_slice.ensures.items c.as_slice-first.ensures.value c.in_ok-extend_from_slice-2.ensures.items c.as_slice-second.ensures.value c.in_ok-push.ensures.items in
     subst (λ ps. IsPattern names ps (two (text_at names c.args.name) t u)) (sym all) (pair_pattern names ks ls t u c.args.name c.args.second.now.exact named first second))
