@@ -88,6 +88,14 @@ fn write_next<'t, S: Primitives>(
     }
 }
 
+/// How many parts the term has where none of its arguments is a compound; it has more where one is.
+fn parts_at_least(term: &Term) -> usize {
+    match term {
+        Term::Compound(_, arguments) => arguments.len().saturating_add(1),
+        Term::Var(_) | Term::Int(_) | Term::Atom(_) => 1,
+    }
+}
+
 /// The term with its variables by their places, written out. The error is that memory was refused.
 pub(crate) fn written<S: Primitives>(
     alloc: Global,
@@ -100,7 +108,7 @@ pub(crate) fn written<S: Primitives>(
     ensures names { KeepsTexts (S.names store.old) (S.names store.new) }
     ensures marks { KeepsMarks (S.stands store.old) (S.stands store.new) }
 {
-    let mut parts = Vec::new(alloc);
+    let mut parts = Vec::with_capacity(alloc, parts_at_least(term))?;
     let mut left = Vec::new(alloc);
     left.push(term)?;
     while let Some(next) = left.pop() {
