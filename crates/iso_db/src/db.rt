@@ -146,6 +146,7 @@ impl<C: Drop> Db<C> {
     }
 
     /// The clauses of the procedure at this place, as they are now, that have this key, or that have none.
+    #[inline(always)]
     fn part(&self, place: usize, key: Option<FirstKey>) -> Ahead
         requires { place < length (contents self.now).procedures }
         ensures leads { Leads self.now.slots.items self.now.removals self.now.lists.items None result

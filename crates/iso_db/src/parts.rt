@@ -58,7 +58,7 @@ impl Parts {
     }
 
     /// The number of this part, by its hash. Takes no memory.
-    #[inline(never)]
+    #[inline(always)]
     fn find_by_hash(&self, place: usize, key: Option<FirstKey>) -> Option<usize>
         ensures found { IfSome result (λ n. slice_get self.now n ≡ Some (record { place = place; key = key })) }
         ensures absent { IfNone result ((n : ℕ) → slice_get self.now n ≢ Some (record { place = place; key = key })) }
