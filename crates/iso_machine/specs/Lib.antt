@@ -1,6 +1,7 @@
 pub mod Arithmetic
 pub mod BuiltIns
 pub mod Came
+pub mod Comings
 pub mod Engines
 pub mod Entered
 pub mod Firsts

@@ -1,23 +1,18 @@
-//! How the machine calls what comes first of a list, where it is a goal (7.7.7), and how it tries clauses again.
+//! How the machine calls what comes first of a list, where it is a goal (7.7.7).
 ghost use Rattle.std.specs.Prelude.{◌≡◌, ◌<◌, None, Ok, Err, IfOk, OnErr, Option, MatchBool, length};
-ghost use Rattle.iso_model.specs.Search.RunLaws.Spans.{ComesBeyond};
 ghost use Rattle.iso_model.specs.Search.Walker.{State};
 ghost use Rattle.iso_search_core.specs.declared.nows.Now.TheVariants as now;
 ghost use Rattle.iso_frames.specs.declared.frames.Next.TheVariants as next;
 ghost use Rattle.iso_environments.specs.Leveled.{IsAtClause};
 ghost use Rattle.iso_environments.specs.Putting.{IsCallThere};
 ghost use Rattle.iso_search.specs.EngineStates.{Represents, Refused, weight};
-ghost use Rattle.iso_search.specs.Nexts.{ComesNext, FallsNext, WentOrFull};
-ghost use Rattle.iso_search.specs.Retrying.{TriesNext};
-ghost use Rattle.iso_search.specs.Stays.{Stays};
 ghost use Rattle.iso_machine.specs.Came.{Came};
 ghost use Rattle.iso_machine.specs.Engines.{framed};
 ghost use Rattle.iso_machine.specs.Steps.{IsOtherThere};
 
 use super::arithmetic::compute;
-use super::calling::{Gone, enter_clause, take_arguments};
 use super::control::cut_back;
-use super::framed::{Framed, KeptCall};
+use super::framed::Framed;
 use super::goal_places::{Act, act_there};
 use super::goals::{call_goal, call_word};
 use iso_cells::Cells;
@@ -26,7 +21,6 @@ use iso_instructions::Instruction;
 use iso_plain_core::bodies::Node;
 use iso_plain_core::members::Todo;
 use iso_search::calls::{Next, NextGoal};
-use iso_search::retries::Retry;
 use iso_search::search::Search;
 use iso_store_core::{Store, StoreFault};
 
@@ -94,36 +88,5 @@ pub(crate) fn call_first<S: Cells + Drop>(
         First::Member(link) => call_member(search, link, asked),
         First::Goal(goal, behind) => call_word(search, goal, behind, asked),
         First::Code(rest) => call_code(search, rest, asked),
-    }
-}
-
-/// Goes back to the newest choice, and enters the clause that it tries next (7.7.8). The errors: the store is full, or
-/// memory was refused.
-#[inline(always)]
-pub(crate) fn try_next<S: Cells + Drop>(
-    search: &mut Search<S, Framed<S>>,
-    retry: Retry<KeptCall, Option<Rest>>,
-) -> Result<Next, StoreFault>
-    requires failing { search.old.now ≡ now.Failing }
-    requires stands { (s : State) × Represents S.Store (framed S.atom_word) search.old s }
-    requires tries { TriesNext search.old retry }
-    ensures next { (s : State) → Represents S.Store (framed S.atom_word) search.old s
-        → IfOk result (λ n. ComesNext S.Store (framed S.atom_word) ComesBeyond (λ l first. ⊥) n None s search.new) }
-    ensures went { IfOk result WentOrFull }
-    ensures stopped { (s : State) → Represents S.Store (framed S.atom_word) search.old s
-        → OnErr result (Refused S.Store (framed S.atom_word) search.new s) }
-    ensures falls { IfOk result (λ n. FallsNext n (weight (framed S.atom_word) search.old)
-        (weight (framed S.atom_word) search.new)) }
-    ensures full { result ≡ Err StoreFault.Full → S.full search.new.store }
-    ensures stays { Stays S.Store search.old search.new }
-{
-    let newest = search.go_back();
-    let below = search.leave_choice(newest.mark);
-    take_arguments(&mut search.lists, retry.call)?;
-    let name = retry.call.name;
-    match enter_clause(search, retry.clause, name, newest.rest, below, false)? {
-        Gone::Went => Ok(Next::Went),
-        Gone::Full => unreachable!(),
-        Gone::Last => unreachable!(),
     }
 }

@@ -23,13 +23,14 @@ ghost use Rattle.iso_machine.specs.GoalCalls.{CallsPut};
 ghost use Rattle.iso_machine.specs.Lists.{IsFor, KeepsFrames, arguments_at, cost_at, extent_of};
 ghost use Rattle.iso_machine.specs.Newest.{frames_kept, words_kept};
 
+use super::coming::go_on;
 use super::entering::{Entered, enter, makes_frame};
 use super::framed::{Framed, KeptCall};
 use super::room::has_room;
 use iso_atoms::Atom;
 use iso_cells::Cells;
 use iso_db::{ClauseId, KeyedView};
-use iso_environments as environments;
+use iso_environments::{self as environments, Put};
 use iso_frames::Rest;
 use iso_program::left_clauses::{has_left, next_left};
 use iso_search::search::Search;
@@ -186,35 +187,34 @@ fn may_go_last<S: Cells + Drop>(search: &Search<S, Framed<S>>, last: bool) -> bo
 pub(crate) fn enter_clause<S: Cells + Drop>(
     search: &mut Search<S, Framed<S>>,
     clause: ClauseId,
-    name: Atom,
-    rest: Option<Rest>,
+    put: &Put,
     mark: usize,
     last: bool,
 ) -> Result<Gone, StoreFault>
     requires { (s : State) × (goal : Tree) × (c : databases.Clause) × (cs : List databases.Clause)
         × (behind : List Member) × (later : KeyedView) × CallsPut S.Store S.atom_word search.old clause later
-        name rest s goal c cs behind }
+        put.now.name put.now.behind s goal c cs behind }
     ensures tried { (s : State) (goal : Tree) (c : databases.Clause) (cs : List databases.Clause)
         (behind : List Member) (later : KeyedView) → CallsPut S.Store S.atom_word search.old clause later
-        name rest s goal c cs behind
+        put.now.name put.now.behind s goal c cs behind
         → result ≡ Ok Gone.Went → StandsAs S.Store (framed S.atom_word) search.new (tried_clause goal c mark behind s) }
     ensures kept { (s : State) (goal : Tree) (c : databases.Clause) (cs : List databases.Clause)
         (behind : List Member) (later : KeyedView) → CallsPut S.Store S.atom_word search.old clause later
-        name rest s goal c cs behind
+        put.now.name put.now.behind s goal c cs behind
         → OnErr result (Remains S.Store (framed S.atom_word) search.new (tried_clause goal c mark behind s)) }
     ensures alone { result ≡ Ok Gone.Last → last ≡ true }
-    ensures last { result ≡ Ok Gone.Last → GoesLast search.new clause rest (λ e. ((s : State) (goal : Tree)
+    ensures last { result ≡ Ok Gone.Last → GoesLast search.new clause put.now.behind (λ e. ((s : State) (goal : Tree)
         (c : databases.Clause) (cs : List databases.Clause) (behind : List Member) (later : KeyedView)
-        → CallsPut S.Store S.atom_word search.old clause later name rest s goal c cs behind
+        → CallsPut S.Store S.atom_word search.old clause later put.now.name put.now.behind s goal c cs behind
         → StandsAs S.Store (framed S.atom_word) e (tried_clause goal c mark behind s))
         × (cost (framed S.atom_word) e
-        ≤ kept_cost (framed S.atom_word) search.old + body_cost most (cost_at search.old.lists rest))) }
+        ≤ kept_cost (framed S.atom_word) search.old + body_cost most (cost_at search.old.lists put.now.behind))) }
     ensures entered { result ≢ Ok Gone.Full }
     ensures steps { search.new.steps ≡ search.old.steps }
     ensures awake { result ≡ Ok Gone.Went → IsAwake (phase_of search.new.now) }
     ensures heap { result ≡ Err StoreFault.Full → S.full search.new.store }
     ensures costs { result ≡ Ok Gone.Went → cost (framed S.atom_word) search.new
-        ≤ kept_cost (framed S.atom_word) search.old + body_cost most (cost_at search.old.lists rest) }
+        ≤ kept_cost (framed S.atom_word) search.old + body_cost most (cost_at search.old.lists put.now.behind) }
     ensures stays { Stays S.Store search.old search.new }
 {
     let last = may_go_last(search, last);
@@ -223,14 +223,14 @@ pub(crate) fn enter_clause<S: Cells + Drop>(
         &mut search.store,
         &mut search.lists,
         entered,
-        name,
-        rest,
+        put.name,
+        put.behind,
         mark,
         last,
     )? {
         Entered::Missed => search.now = Now::Failing,
         Entered::Last => return Ok(Gone::Last),
-        Entered::At(place) => search.now = search.coming(place),
+        Entered::At(place) => go_on(&mut search.now, &search.lists, place),
     }
     Ok(Gone::Went)
 }
@@ -270,44 +270,44 @@ pub(crate) fn call<S: Cells + Drop>(
     search: &mut Search<S, Framed<S>>,
     clause: ClauseId,
     later: &mut KeyedView,
-    name: Atom,
-    rest: Option<Rest>,
+    put: &Put,
     last: bool,
 ) -> Result<Gone, StoreFault>
     requires { (s : State) × (goal : Tree) × (c : databases.Clause) × (cs : List databases.Clause)
         × (behind : List Member) × CallsPut S.Store S.atom_word search.old clause later.old
-        name rest s goal c cs behind }
+        put.now.name put.now.behind s goal c cs behind }
     ensures tried { (s : State) (goal : Tree) (c : databases.Clause) (cs : List databases.Clause)
         (behind : List Member) → CallsPut S.Store S.atom_word search.old clause later.old
-        name rest s goal c cs behind
+        put.now.name put.now.behind s goal c cs behind
         → result ≡ Ok Gone.Went → StandsAs S.Store (framed S.atom_word) search.new (tried goal (c ∷ cs) behind s) }
     ensures full { result ≡ Ok Gone.Full → search.new ≡ search.old }
-    ensures beyond { result ≡ Ok Gone.Full → IsBeyond S.Store S.atom_word search.old rest }
+    ensures beyond { result ≡ Ok Gone.Full → IsBeyond S.Store S.atom_word search.old put.now.behind }
     ensures kept { (s : State) (goal : Tree) (c : databases.Clause) (cs : List databases.Clause)
         (behind : List Member) → CallsPut S.Store S.atom_word search.old clause later.old
-        name rest s goal c cs behind
+        put.now.name put.now.behind s goal c cs behind
         → OnErr result (WasRefused S.Store (framed S.atom_word) search.new s (tried goal (c ∷ cs) behind s)) }
     ensures alone { result ≡ Ok Gone.Last → last ≡ true }
-    ensures last { result ≡ Ok Gone.Last → GoesLast search.new clause rest (λ e. ((s : State) (goal : Tree)
+    ensures last { result ≡ Ok Gone.Last → GoesLast search.new clause put.now.behind (λ e. ((s : State) (goal : Tree)
         (c : databases.Clause) (cs : List databases.Clause) (behind : List Member)
-        → CallsPut S.Store S.atom_word search.old clause later.old name
-        rest s goal c cs behind → StandsAs S.Store (framed S.atom_word) e (tried goal (c ∷ cs) behind s))
+        → CallsPut S.Store S.atom_word search.old clause later.old put.now.name put.now.behind s goal c cs behind
+        → StandsAs S.Store (framed S.atom_word) e (tried goal (c ∷ cs) behind s))
         × (cost (framed S.atom_word) e ≤ kept_cost (framed S.atom_word) search.old
-        + left_cost most (cost_at search.old.lists rest) + body_cost most (cost_at search.old.lists rest))) }
+        + left_cost most (cost_at search.old.lists put.now.behind)
+        + body_cost most (cost_at search.old.lists put.now.behind))) }
     ensures awake { result ≡ Ok Gone.Went → IsAwake (phase_of search.new.now) }
     ensures heap { result ≡ Err StoreFault.Full → S.full search.new.store }
     ensures steps { search.new.steps ≡ search.old.steps }
     ensures stays { Stays S.Store search.old search.new }
     ensures costs { result ≡ Ok Gone.Went → cost (framed S.atom_word) search.new
-        ≤ kept_cost (framed S.atom_word) search.old + left_cost most (cost_at search.old.lists rest)
-        + body_cost most (cost_at search.old.lists rest) }
+        ≤ kept_cost (framed S.atom_word) search.old + left_cost most (cost_at search.old.lists put.now.behind)
+        + body_cost most (cost_at search.old.lists put.now.behind) }
 {
-    if lacks_room(search, clause, later, rest, last) {
+    if lacks_room(search, clause, later, put.behind, last) {
         return Ok(Gone::Full);
     }
     let mark = search.choices.len();
-    if !push_later(search, later, name, rest)? {
+    if !push_later(search, later, put.name, put.behind)? {
         unreachable!();
     }
-    enter_clause(search, clause, name, rest, mark, last)
+    enter_clause(search, clause, put, mark, last)
 }

@@ -13,6 +13,7 @@ ghost use Rattle.iso_search.specs.Moved.{Moved};
 ghost use Rattle.iso_machine.specs.Engines.{framed};
 ghost use Rattle.iso_machine.specs.Instructions.{IsInstructionThere, IsStepThere, IsSplit, CutsAs, at_address};
 
+use super::coming::go_on;
 use super::framed::Framed;
 use super::room::has_room;
 use iso_cells::Cells;
@@ -107,7 +108,7 @@ pub(crate) fn cut_back<S: Cells + Drop>(search: &mut Search<S, Framed<S>>, rest:
 {
     let height = height_at(search.lists.frames.as_slice(), rest, mark);
     search.cut_to(height);
-    search.now = search.coming(at(rest, rest.address - 1));
+    go_on(&mut search.now, &search.lists, at(rest, rest.address - 1));
 }
 
 /// Keeps the alternative at another address of the clause as a choice, and goes on at the address below (7.8.6). The

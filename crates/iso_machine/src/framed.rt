@@ -1,5 +1,5 @@
 //! Lists of goals as frames over environments, and members over bodies that were placed.
-ghost use Rattle.std.specs.Prelude.{◌≡◌, ◌≤◌, ◌+◌, ℕ, List, [], ◌∷◌, IfOk, length, true};
+ghost use Rattle.std.specs.Prelude.{◌≡◌, ◌≤◌, ◌+◌, ℕ, List, [], ◌∷◌, IfOk, IfSome, length, true};
 ghost use Rattle.iso_model.specs.Search.Bodies.{Body, Run};
 ghost use Rattle.iso_model.specs.Search.Walker.{Member};
 ghost use Rattle.iso_store_core.specs.Presents.{Present};
@@ -12,6 +12,7 @@ ghost use Rattle.iso_clause_code.proofs.KeptLemmas.{code_stays};
 ghost use Rattle.iso_frames.specs.Frames.{depth_of, plain_link};
 ghost use Rattle.iso_frames.specs.Costs.{first_cost, first_pending};
 ghost use Rattle.iso_machine.specs.Firsts.{GoesOn, IsFirstOf, catch_of};
+ghost use Rattle.iso_machine.specs.Comings.{ComesAt};
 ghost use Rattle.iso_machine.specs.Lists.{IsList, IsFor, IsFirst, IsWithin, IsNoMore, IsNothing, KeepsFrames};
 ghost use Rattle.iso_machine.specs.Lists.{extent_of, cost_at, pending_at};
 ghost use Rattle.iso_machine.specs.Lists.{list_words, body_words, list_values, list_more, as_much};
@@ -129,6 +130,26 @@ impl<S: Cells> Framed<S> {
             behind,
         })?;
         Ok(Some(Rest { frame, address: 0 }))
+    }
+
+    /// The place of the instruction that comes first of the list from the place on; none where a member comes first, or
+    /// nothing is left.
+    #[inline(always)]
+    pub(crate) fn code_from(&self, place: Option<Rest>) -> Option<Rest>
+        requires { (p : Present S.Word) × (ms : List Member)
+            × IsList S.atom_word p self.now (extent_of self.now) place ms }
+        ensures { IfSome result (ComesAt S.atom_word self.now place) }
+    {
+        let mut place = place;
+        while let Some(rest) = place {
+            let frame = &self.frames[rest.frame];
+            match first_of::<S::Word>(frame, rest) {
+                Some(Next::Code(rest)) => return Some(rest),
+                Some(_) => return None,
+                None => place = frame.behind,
+            }
+        }
+        None
     }
 
     /// Appends a body that is this goal. The error is that memory was refused.

@@ -17,6 +17,7 @@ ghost use Rattle.iso_search.specs.Called.{CallsAt, IsCalled};
 ghost use Rattle.iso_search.specs.declared.calls.Next.TheVariants as calls;
 ghost use Rattle.iso_search.specs.EngineStates.{Represents, leaves_of};
 ghost use Rattle.iso_search.specs.Nexts.{IsGoalFirst};
+ghost use Rattle.iso_search.specs.Retrying.{TriesNext};
 ghost use Rattle.iso_search.specs.Worlds.{IsWorld};
 ghost use Rattle.iso_machine.specs.Came.{Came, CameTo, IsBehindCalls, went_on};
 ghost use Rattle.iso_machine.specs.Engines.{Engine, framed};
@@ -26,9 +27,10 @@ use super::arithmetic::compute;
 use super::built_ins::{goal_fails, run_library};
 use super::calling::Gone;
 use super::control::cut_back;
-use super::framed::Framed;
+use super::framed::{Framed, KeptCall};
 use super::goal_places::{Act, GoalPlace, act_there, put_next};
 use super::putting::{called_put, go, show_goal, show_next};
+use super::retrying::try_next;
 use iso_atoms::Atom;
 use iso_cells::Cells;
 use iso_db::{ClauseId, KeyedView};
@@ -36,6 +38,7 @@ use iso_environments::{Put, Words};
 use iso_frames::{Next as First, Rest};
 use iso_model::{BuiltIn, NoMemory};
 use iso_search::calls::{Called, Next, NextGoal};
+use iso_search::retries::Retry;
 use iso_search::search::Search;
 use iso_search_core::goals::read_arguments;
 use iso_search_core::nows::Now;
@@ -94,7 +97,8 @@ fn go_word<S: Cells + Drop>(
     let name = name_of(&search.store, goal);
     let lists = &mut search.lists;
     read_goal(&search.store, goal, &mut lists.made, &mut lists.arguments)?;
-    match go(search, clause, later, name, behind, false)? {
+    let put = Put { name, behind };
+    match go(search, clause, later, &put, false)? {
         Gone::Went => Ok(Next::Went),
         Gone::Full => Ok(Next::Full),
         Gone::Last => unreachable!(),
@@ -209,8 +213,20 @@ fn code_first<W: Copy>(doing: &Now<First<W>, Option<Rest>>) -> Option<Rest>
     }
 }
 
-/// Does arithmetic and cuts, as long as they come first; arithmetic only where a step is left. Gives the place of the
-/// instruction that comes first then, where it calls a goal. The errors: the store is full, or memory was refused.
+/// What the newest choice tries next, where the engine fails and clauses are left there.
+#[inline(always)]
+fn next_try<S: Cells + Drop>(search: &Search<S, Framed<S>>) -> Option<Retry<KeptCall, Option<Rest>>>
+    ensures { IfSome result (λ retry. (search.entry.now.now ≡ now.Failing) × TriesNext search.entry.now retry) }
+{
+    let Now::Failing = search.now else {
+        return None;
+    };
+    search.next_retry()
+}
+
+/// Does arithmetic and cuts, as long as they come first, arithmetic only where a step is left; and tries clauses again
+/// where the engine fails and some are left. Gives the place of the instruction that comes first then, where it calls a
+/// goal. The errors: the store is full, or memory was refused.
 fn go_to_call<S: Cells + Drop>(
     search: &mut Search<S, Framed<S>>,
 ) -> Result<Option<Rest>, StoreFault>
@@ -223,7 +239,11 @@ fn go_to_call<S: Cells + Drop>(
 {
     loop {
         let Some(rest) = code_first(&search.now) else {
-            return Ok(None);
+            let Some(retry) = next_try(search) else {
+                return Ok(None);
+            };
+            try_next(search, retry)?;
+            continue;
         };
         match act_there(search.lists.frames.as_slice(), rest) {
             Act::Calls => return Ok(Some(rest)),
@@ -261,7 +281,7 @@ pub(crate) fn call_goal<S: Cells + Drop>(
             Called::User(clause) if search.steps != 0 => clause,
             _ => return leave_goal(search, put, called, went, asked),
         };
-        match go(search, clause, &mut later, put.name, put.behind, true)? {
+        match go(search, clause, &mut later, &put, true)? {
             Gone::Went => match go_to_call(search)? {
                 Some(rest) => place = GoalPlace::There(rest),
                 None => return Ok(Next::Went),

@@ -5,6 +5,7 @@ mod arithmetic;
 mod built_ins;
 mod callers;
 mod calling;
+mod coming;
 mod control;
 mod entering;
 mod framed;
@@ -13,6 +14,7 @@ mod goals;
 pub mod machine;
 mod members;
 mod putting;
+mod retrying;
 mod room;
 mod steps;
 

@@ -32,6 +32,7 @@ use super::framed::Framed;
 use iso_atoms::Atom;
 use iso_cells::Cells;
 use iso_db::{ClauseId, KeyedView};
+use iso_environments::Put;
 use iso_frames::{Next as First, Rest};
 use iso_model::Limit;
 use iso_search::calls::{Called, Next, NextGoal};
@@ -72,20 +73,19 @@ pub(crate) fn go<S: Cells + Drop>(
     search: &mut Search<S, Framed<S>>,
     clause: ClauseId,
     later: &mut KeyedView,
-    name: Atom,
-    behind: Option<Rest>,
+    put: &Put,
     last: bool,
 ) -> Result<Gone, StoreFault>
     requires { (old : Engine S S.Word S.Mark) × (s : State) × Represents S.Store (framed S.atom_word) old s
-        × IsToCall S.Store S.atom_word old search.old clause later.old name behind }
+        × IsToCall S.Store S.atom_word old search.old clause later.old put.now.name put.now.behind }
     ensures came { (old : Engine S S.Word S.Mark)
-        → IsToCall S.Store S.atom_word old search.old clause later.old name behind
-        → CameLast S.Store S.atom_word old result search.new clause behind }
+        → IsToCall S.Store S.atom_word old search.old clause later.old put.now.name put.now.behind
+        → CameLast S.Store S.atom_word old result search.new clause put.now.behind }
     ensures alone { result ≡ Ok Gone.Last → last ≡ true }
     ensures steps { IfOk result (λ gone. search.new.steps < search.old.steps) }
 {
-    make_ready(search, name, behind);
-    match call(search, clause, later, name, behind, last)? {
+    make_ready(search, put.name, put.behind);
+    match call(search, clause, later, put, last)? {
         Gone::Went => Ok(Gone::Went),
         Gone::Full => {
             search.now = Now::Spent(Limit::Frames);

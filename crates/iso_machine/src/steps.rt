@@ -18,6 +18,7 @@ use super::callers;
 use super::control::run_instruction;
 use super::framed::{Framed, KeptCall};
 use super::goal_places::{Act, act_there};
+use super::retrying::try_next;
 use iso_cells::Cells;
 use iso_control::control::{First, run_member};
 use iso_frames::{Next as Coming, Rest};
@@ -89,7 +90,8 @@ impl<S: Cells + Drop> Calls<S> for Framed<S> {
         ensures full { result ≡ Err StoreFault.Full → S.full search.new.store }
         ensures stays { Stays S.Store search.old search.new }
     {
-        callers::try_next(search, retry)
+        try_next(search, retry)?;
+        Ok(Next::Went)
     }
 
     ghost spans = { λ limit s full. full.1 };

@@ -12,14 +12,14 @@ use Rattle.iso_machine.proofs.calling.call.Goals as goal
 
 pub lacks_room-requires : goal.lacks_room-requires
 lacks_room-requires g c =
-    (c.requires.0, c.requires.1, c.requires.2, c.requires.3, c.requires.4, c.args.name, c.requires.5)
+    (c.requires.0, c.requires.1, c.requires.2, c.requires.3, c.requires.4, c.args.put.now.name, c.requires.5)
 
 pub returns-then-lacks_room-clause-beyond : goal.returns-then-lacks_room-clause-beyond
 returns-then-lacks_room-clause-beyond g c = λ done. c.lacks_room.ensures.beyond c.if-lacks_room.true
 
 pub push_later-requires-clause-room : goal.push_later-requires-clause-room
 push_later-requires-clause-room g c = λ first s t k ks gs calls some.
-    c.lacks_room.ensures.room first s t k ks gs c.args.name calls c.if-lacks_room.false some
+    c.lacks_room.ensures.room first s t k ks gs c.args.put.now.name calls c.if-lacks_room.false some
 
 pub enter_clause-requires : goal.enter_clause-requires
 enter_clause-requires g c =
@@ -87,7 +87,7 @@ returns-clause-last g c = λ done.
             let costs = entered.says.1 in
             let more = c.in_ok-push_later.ensures.costs (ap Ok c.if-not-branch.false) in
             let behind = ap (λ (x : Engine g.row.S.Denot g.row.S-Word.Denot g.row.S-Mark.Denot).
-            body_cost most (cost_at x.lists c.args.rest)) c.in_ok-push_later.ensures.same in
+            body_cost most (cost_at x.lists c.args.put.now.behind)) c.in_ok-push_later.ensures.same in
             omega (arith, costs, more, behind)),
       );
     }

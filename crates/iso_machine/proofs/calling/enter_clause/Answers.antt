@@ -35,14 +35,14 @@ returns-in_err-enter-clause-kept g c = λ s t k ks gs later calls.
     let is = left_clause (g.S.Store.names e.store) e.db calls.clauses c.clause-entered.result.now
     c.clause-entered.ensures in
     let keeps = keeps_more g.S.Store (framed a) e c.enter.new.store held s.world s.stack
-    (keeps_ahead g.S.Store (framed a) e _ c.args.rest calls.ahead) on.rest.marks (same_texts on.rest.names) grows in
+    (keeps_ahead g.S.Store (framed a) e _ c.args.put.now.behind calls.ahead) on.rest.marks (same_texts on.rest.names) grows in
     behind_error c.from_residual.result
     (remains_tried g.S.Store (framed a) (record e { store = c.enter.new.store; lists = held })
-    (g.S.Store.present e.store) s t k c.args.mark gs (pending_at e.lists c.args.rest) keeps (on.cells k is)
+    (g.S.Store.present e.store) s t k c.args.mark gs (pending_at e.lists c.args.put.now.behind) keeps (on.cells k is)
     calls.ahead.fits)
 
-pub coming-search-requires : goal.coming-search-requires
-coming-search-requires g c =
+pub go_on-requires : goal.go_on-requires
+go_on-requires g c =
     let a = g.S.Cells.atom_word in
     let e = c.args.search.now in
     let k = c.requires.2 in
@@ -51,8 +51,11 @@ coming-search-requires g c =
     c.clause-entered.ensures in
     let comes = c.in_ok-enter.ensures.comes k c.requires.1 c.requires.4 is calls.put calls.ahead.chain in
     let b = subst (λ (x : Entered). Comes a (g.S.Store.present e.store) (g.S.Store.present c.enter.new.store)
-    c.requires.1 k c.args.mark c.requires.4 c.enter.new.lists x) c.in-At.is comes in
-    (clause_members (g.S.Store.present c.enter.new.store) b.words c.args.mark k ++ c.requires.4, b.list)
+    c.requires.1 k c.args.mark c.requires.4 c.enter.new.lists x) c.in-At.is comes in (
+      g.S.Store.present c.enter.new.store,
+      clause_members (g.S.Store.present c.enter.new.store) b.words c.args.mark k ++ c.requires.4,
+      b.list,
+    )
 
 pub returns-in-Missed-clause-tried : goal.returns-in-Missed-clause-tried
 returns-in-Missed-clause-tried g c = λ s t k ks gs later calls done.
@@ -66,7 +69,7 @@ returns-in-Missed-clause-tried g c = λ s t k ks gs later calls done.
     let comes = on.comes k t gs is calls.put calls.ahead.chain in
     let never = subst (λ (x : Entered). Comes a (g.S.Store.present e.store) (g.S.Store.present store) t k c.args.mark gs
     held x) c.in-Missed.is comes in
-    let tried : Tried g.S.Store (framed a) e c.args.rest s k gs store held = record {
+    let tried : Tried g.S.Store (framed a) e c.args.put.now.behind s k gs store held = record {
       ahead = calls.ahead;
       space = calls.space;
       keeps = on.rest.marks;
@@ -76,7 +79,7 @@ returns-in-Missed-clause-tried g c = λ s t k ks gs later calls done.
       few = is.few;
       goals = is.own.goals;
     } in
-    missed_engine g.S.Store (framed a) e c.args.rest s t k gs store held c.args.mark tried never
+    missed_engine g.S.Store (framed a) e c.args.put.now.behind s t k gs store held c.args.mark tried never
 
 pub returns-in-Missed-clause-costs : goal.returns-in-Missed-clause-costs
 returns-in-Missed-clause-costs g c = λ done.
@@ -85,7 +88,7 @@ returns-in-Missed-clause-costs g c = λ done.
     let on = c.in_ok-enter.ensures in
     let held = c.enter.new.lists in
     let grows = adds_keeps a e.lists held (adds_same on.nodes) on.frames on.words in
-    let same = grown_cost g.S.Store (framed a) e _ c.args.rest held c.requires.6.ahead grows in
+    let same = grown_cost g.S.Store (framed a) e _ c.args.put.now.behind held c.requires.6.ahead grows in
     omega (arith, same)
 
 pub returns-in-At-clause-tried : goal.returns-in-At-clause-tried
@@ -101,8 +104,8 @@ returns-in-At-clause-tried g c = λ s t k ks gs later calls done.
     let b = subst (λ (x : Entered). Comes a (g.S.Store.present e.store) (g.S.Store.present store) t k c.args.mark gs
     held x) c.in-At.is comes in
     let pending = subst (λ (x : Entered). IfAt x (λ (place : Option Rest). pending_at held place
-    ≤ 2 * body_size k.body + pending_at e.lists c.args.rest)) c.in-At.is (on.pending k is) in
-    let tried : Tried g.S.Store (framed a) e c.args.rest s k gs store held = record {
+    ≤ 2 * body_size k.body + pending_at e.lists c.args.put.now.behind)) c.in-At.is (on.pending k is) in
+    let tried : Tried g.S.Store (framed a) e c.args.put.now.behind s k gs store held = record {
       ahead = calls.ahead;
       space = calls.space;
       keeps = on.rest.marks;
@@ -112,8 +115,8 @@ returns-in-At-clause-tried g c = λ s t k ks gs later calls done.
       few = is.few;
       goals = is.own.goals;
     } in
-    begun_engine g.S.Store a e c.args.rest s t k gs store held c.args.mark tried c.in-At.place b pending c.coming-search.result
-    (c.coming-search.ensures.behind
+    begun_engine g.S.Store a e c.args.put.now.behind s t k gs store held c.args.mark tried c.in-At.place b pending c.go_on.new.doing
+    (c.go_on.ensures.behind (g.S.Store.present store)
     (clause_members (g.S.Store.present store) b.words c.args.mark k ++ gs) b.list)
 
 pub returns-in-At-clause-costs : goal.returns-in-At-clause-costs
@@ -123,10 +126,10 @@ returns-in-At-clause-costs g c = λ done.
     let on = c.in_ok-enter.ensures in
     let held = c.enter.new.lists in
     let grows = adds_keeps a e.lists held (adds_same on.nodes) on.frames on.words in
-    let same = grown_cost g.S.Store (framed a) e _ c.args.rest held c.requires.6.ahead grows in
-    let first = c.coming-search.ensures.cost in
+    let same = grown_cost g.S.Store (framed a) e _ c.args.put.now.behind held c.requires.6.ahead grows in
+    let first = c.go_on.ensures.cost in
     let cost = subst (λ (x : Entered). IfAt x (λ (place : Option Rest). cost_at held place
-    ≤ body_cost most (cost_at e.lists c.args.rest))) c.in-At.is on.cost in
+    ≤ body_cost most (cost_at e.lists c.args.put.now.behind))) c.in-At.is on.cost in
     omega (arith, same, first, cost)
 
 pub returns-in-Last-clause-alone : goal.returns-in-Last-clause-alone
@@ -150,7 +153,7 @@ returns-in-Last-clause-last g c = λ done.
     let many = c.may_go_last-last.ensures.few alone.0 in
     let same = ap (λ (v : Vec Frame Global). length v.items) alone.1 in
     let few : length held.frames.items + 1 < 9223372036854775808 = omega (arith, many, same) in
-    let rest = c.args.rest in
+    let rest = c.args.put.now.behind in
     let mark = c.args.mark in
     let frames = frames_last g.S.Store a e store held c.args.clause value mark rest stands alone.2 alone.1 few in
     let has = has_last g.S.Store a e store held c.args.clause value mark rest stands alone.2 alone.1 few in

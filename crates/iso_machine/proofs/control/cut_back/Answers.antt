@@ -29,8 +29,8 @@ overflow_sub-rest g c =
     (cut_at g.S.Store g.S.Cells.atom_word c.args.search.now c.args.rest c.requires.now c.args.mark c.requires.there
     c.requires.stands.0 c.requires.stands.1).some
 
-pub coming-search-requires : goal.coming-search-requires
-coming-search-requires g c =
+pub go_on-requires : goal.go_on-requires
+go_on-requires g c =
     let there = c.requires.there in
     let heights = rw c.as_slice.ensures.value at c.height_at-height.ensures in
     let cut = cut_at g.S.Store g.S.Cells.atom_word c.args.search.now c.args.rest c.requires.now c.args.mark there
@@ -39,18 +39,18 @@ coming-search-requires g c =
     c.cut_to.new.self c.height_at-height.result c.cut_to.ensures.cut
     (λ kept levels. heights there.frame there.code there.level kept there.clause levels) c.requires.stands.0
     c.requires.stands.1 in
-    rw c.at.ensures (cut.behind, ahead.chain)
+    rw c.at.ensures (g.S.Store.present c.cut_to.new.self.store, cut.behind, ahead.chain)
 
 pub returns-clause-moved : goal.returns-clause-moved
 returns-clause-moved g c =
     let there = c.requires.there in
     let heights = rw c.as_slice.ensures.value at c.height_at-height.ensures in
-    let comes = rw c.at.ensures at c.coming-search.ensures.behind in
-    let less = rw c.at.ensures at c.coming-search.ensures.cost in
+    let comes = rw c.at.ensures at c.go_on.ensures.behind in
+    let less = rw c.at.ensures at c.go_on.ensures.cost in
     cut_moved g.S.Store g.S.Cells.atom_word c.args.search.now c.args.rest c.requires.now c.args.mark there
     c.cut_to.new.self c.height_at-height.result c.cut_to.ensures.cut
     (λ kept levels. heights there.frame there.code there.level kept there.clause levels) c.cut_to.ensures.same
-    c.cut_to.ensures.costs c.coming-search.result comes less c.coming-search.ensures.awake (search rules)
+    c.cut_to.ensures.costs c.go_on.new.doing (comes (g.S.Store.present c.cut_to.new.self.store)) less c.go_on.ensures.awake (search rules)
     c.requires.stands.0 c.requires.stands.1
 
 pub returns-clause-steps : goal.returns-clause-steps

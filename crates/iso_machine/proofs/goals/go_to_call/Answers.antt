@@ -10,8 +10,8 @@ use Rattle.iso_machine.proofs.goals.go_to_call.Goals as goal
 pub loop-rest-init : goal.loop-rest-init
 loop-rest-init g c = behind_none g.S.Store g.S.Cells.atom_word c.args.search.now c.requires.0 c.requires.1
 
-pub returns-in_default-clause-came : goal.returns-in_default-clause-came
-returns-in_default-clause-came g c = λ old first. c.loop-rest.invariant.behind old first
+pub returns-in_default-next_try-clause-came : goal.returns-in_default-next_try-clause-came
+returns-in_default-next_try-clause-came g c = λ old first. c.loop-rest.invariant.behind old first
 
 pub act_there-requires : goal.act_there-requires
 act_there-requires g c =
@@ -43,8 +43,8 @@ compute-requires-clause-stands g c = (let h = c.loop-rest.invariant in (h.state,
 
 pub returns-in_err-compute-in-Computes-clause-came : goal.returns-in_err-compute-in-Computes-clause-came
 returns-in_err-compute-in-Computes-clause-came g c = λ old first.
-    went_not g.S.Store g.S.Cells.atom_word c.from_residual.result _ c.from_residual.ensures.0
-    c.from_residual.ensures.1
+    went_not g.S.Store g.S.Cells.atom_word c.from_residual-in_err-compute-in-Computes.result _ c.from_residual-in_err-compute-in-Computes.ensures.0
+    c.from_residual-in_err-compute-in-Computes.ensures.1
     (refused_behind g.S.Store g.S.Cells.atom_word _ (c.loop-rest.invariant.behind old first)
     c.in_err-compute-in-Computes.ensures.came)
 
@@ -82,3 +82,28 @@ returns-in_default-act_there-clause-came g c = λ old first. c.loop-rest.invaria
 
 pub returns-in_default-act_there-2-clause-came : goal.returns-in_default-act_there-2-clause-came
 returns-in_default-act_there-2-clause-came g c = λ old first. c.loop-rest.invariant.behind old first
+
+pub try_next-requires-clause-failing : goal.try_next-requires-clause-failing
+try_next-requires-clause-failing g c = c.in-Some-next_try.ensures.0
+
+pub try_next-requires-clause-stands : goal.try_next-requires-clause-stands
+try_next-requires-clause-stands g c = (let h = c.loop-rest.invariant in (h.state, h.stands))
+
+pub try_next-requires-clause-tries : goal.try_next-requires-clause-tries
+try_next-requires-clause-tries g c = c.in-Some-next_try.ensures.1
+
+pub returns-in_err-try_next-clause-came : goal.returns-in_err-try_next-clause-came
+returns-in_err-try_next-clause-came g c = λ old first.
+    went_not g.S.Store g.S.Cells.atom_word c.from_residual.result _ c.from_residual.ensures.0
+    c.from_residual.ensures.1
+    (refused_behind g.S.Store g.S.Cells.atom_word _ (c.loop-rest.invariant.behind old first)
+    c.in_err-try_next.ensures.came)
+
+pub loop-rest-smaller-in_default : goal.loop-rest-smaller-in_default
+loop-rest-smaller-in_default g c = (c.in_ok-try_next.ensures.came None).falls
+
+pub loop-rest-preserved-in_default : goal.loop-rest-preserved-in_default
+loop-rest-preserved-in_default g c =
+    let same = c.in_ok-try_next.ensures.steps in
+    behind_more g.S.Store g.S.Cells.atom_word c.loop-rest.invariant c.in_ok-try_next.ensures.came
+    (omega (arith, same))
