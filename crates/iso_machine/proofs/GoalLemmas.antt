@@ -29,7 +29,7 @@ key_is e = cc
 pub name_is : {g f : List ℕ} {m n : ℕ} → Some (key g m) ≡ Some (key f n) → g ≡ f
 name_is e = ap (λ (k : Key). k.name) (key_is e)
 
-arity_is : {g f : List ℕ} {m n : ℕ} → Some (key g m) ≡ Some (key f n) → m ≡ n
+pub arity_is : {g f : List ℕ} {m n : ℕ} → Some (key g m) ≡ Some (key f n) → m ≡ n
 arity_is e = ap (λ (k : Key). k.arity) (key_is e)
 
 -- how many arguments it has, by its key

@@ -73,19 +73,12 @@ pub(crate) fn makes_frame(code: &Code, last: bool) -> bool
     }
 }
 
-/// Whether the head of the clause with this code has this name, and so many arguments.
-fn is_called<S: Store>(store: &S, code: &Code, name: Atom, count: usize) -> bool
-    requires name { name < length (S.names store.now) }
-    requires code { (c : databases.Clause) × KeepsCode (S.names store.now) code.now c }
-    ensures same { (c : databases.Clause) → KeepsCode (S.names store.now) code.now c → result ≡ true
-        → key_of c.head ≡ Some (key (text_at (S.names store.now) name) count) }
-    ensures other { (c : databases.Clause) → KeepsCode (S.names store.now) code.now c → result ≡ false
-        → key_of c.head ≢ Some (key (text_at (S.names store.now) name) count) }
+/// Whether the clause with this code has this name, and so many arguments.
+fn is_called(code: &Code, name: Atom, count: usize) -> bool
+    ensures same { result ≡ true → (code.now.name ≡ name) × (code.now.arity ≡ count) }
+    ensures other { result ≡ false → code.now.name ≡ name → code.now.arity ≢ count }
 {
-    if code.arity != count {
-        return false;
-    }
-    code.name == name || store.text(code.name) == store.text(name)
+    code.arity == count && code.name == name
 }
 
 /// Where the list begins behind the head of a clause that was entered with this cut mark, before the list from `rest`
@@ -172,7 +165,7 @@ pub(crate) fn enter<S: Cells>(
 {
     let code = &clause.own.kept;
     let count = lists.arguments.len();
-    if !is_called(store, code.as_ref(), name, count) {
+    if !is_called(code.as_ref(), name, count) {
         return Ok(Entered::Missed);
     }
     let met = meet_clause(

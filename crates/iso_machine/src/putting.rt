@@ -2,7 +2,7 @@
 ghost use Rattle.std.specs.Prelude.{◌≡◌, ◌≢◌, ◌<◌, ◌≤◌, ◌+◌, ◌-◌, ℕ, Ok, Err, IfOk, OnOk, OnErr, length, map, max};
 ghost use Rattle.std.specs.Prelude.{true};
 ghost use Rattle.std.specs.List.{All};
-ghost use Rattle.iso_atoms.specs.Texts.{EachOnce, text_at};
+ghost use Rattle.iso_atoms.specs.Texts.{text_at};
 ghost use Rattle.iso_model.specs.Search.Walker.{State, World};
 ghost use Rattle.iso_store_core.specs.Presents.{Grows, Holds, KeepsNumbers, Makes, meaning};
 ghost use Rattle.iso_store_core.specs.Retaining.{CountsCells, RetainsAll};
@@ -175,14 +175,6 @@ pub(crate) fn show_next<S: Cells + Drop>(
     Ok(Next::Other)
 }
 
-/// Each name has one atom, as the shape of a word says.
-fn has_once<S: Store>(store: &S, word: S::Word)
-    requires { Holds (S.present store.now) word }
-    ensures { EachOnce (S.names store.now) }
-{
-    store.shape(word);
-}
-
 /// What the goal of this name calls whose arguments were put, one at least. `later`, which gave nothing, gives the
 /// clauses behind the first then.
 pub(crate) fn called_put<S: Cells + Drop>(
@@ -201,6 +193,5 @@ pub(crate) fn called_put<S: Cells + Drop>(
         (goal_put S.Store S.atom_word search.entry.now name) result }
 {
     let first = search.lists.arguments.as_slice()[0];
-    has_once(&search.store, first);
     search.named(name, search.lists.arguments.len(), Some(first), later)
 }

@@ -20,6 +20,7 @@ use Rattle.iso_machine.proofs.BodyCells.{clause_cells}
 use Rattle.iso_machine.proofs.EnterLemmas.{at_weaker, call_key, call_named, call_other, comes_at, met_begins, met_environment, never_met}
 use Rattle.iso_machine.specs.Wholes.{whole_chain, whole_list}
 use Rattle.iso_machine.proofs.GoalLemmas.{head_arity}
+use Rattle.iso_machine.proofs.KeyLemmas.{called_key, other_key}
 use Rattle.iso_machine.specs.declared.framed.Framed.{Framed}
 use Rattle.iso_machine.specs.declared.entering.Entered.TheVariants as entered
 use Rattle.iso_machine.specs.Entered.{Begins}
@@ -38,8 +39,10 @@ returns-then-not-is_called-clause-comes g c = λ d t ms is calls list.
     let text = text_at names c.args.name in
     let named = call_named a l calls text (g.met.S.Cells.named c.args.store.now c.args.name calls.known).1 in
     call_other a l calls text named d.head is.head_template.is is.head_template.key.0 is.head_template.key.1
-    (λ same. c.is_called.ensures.other d
-    (subst (λ (code : Code). KeepsCode names code d) (sym c.as_ref.ensures) is.own) c.if-not-is_called.true
+    (λ same. other_key (subst (λ (code : Code). KeepsCode names code d) (sym c.as_ref.ensures) is.own)
+    (g.met.S.Cells.once c.args.store.now) c.args.name c.len-count.result
+    (g.met.S.Cells.named c.args.store.now c.args.name calls.known).0
+    (c.is_called.ensures.other c.if-not-is_called.true)
     (same ∙ ap (λ (n : ℕ). Some (key text n)) (sym c.len-count.ensures)))
 
 pub returns-then-not-met-clause-comes : goal.returns-then-not-met-clause-comes
@@ -51,8 +54,9 @@ returns-then-not-met-clause-comes g c = λ d t ms is calls list.
     let names = g.S.Store.names c.args.store.now in
     let text = text_at names c.args.name in
     let named = call_named a l calls text (g.met.S.Cells.named c.args.store.now c.args.name calls.known).1 in
-    let found = c.is_called.ensures.same d
-    (subst (λ (code : Code). KeepsCode names code d) (sym c.as_ref.ensures) is.own) c.if-not-is_called.false
+    let found = called_key
+    (subst (λ (code : Code). KeepsCode names code d) (sym c.as_ref.ensures) is.own) c.args.name c.len-count.result
+    (c.is_called.ensures.same c.if-not-is_called.false).0 (c.is_called.ensures.same c.if-not-is_called.false).1
     ∙ ap (λ (n : ℕ). Some (key text n)) c.len-count.ensures in
     let same = call_key a l calls text named d.head found in
     let keeps : KeepsCode names c.as_ref-2.result.now d =
@@ -76,8 +80,9 @@ returns-clause-comes g c = λ d t ms is calls list.
     let names = g.S.Store.names c.args.store.now in
     let text = text_at names c.args.name in
     let named = call_named a l calls text (g.met.S.Cells.named c.args.store.now c.args.name calls.known).1 in
-    let found = c.is_called.ensures.same d
-    (subst (λ (code : Code). KeepsCode names code d) (sym c.as_ref.ensures) is.own) c.if-not-is_called.false
+    let found = called_key
+    (subst (λ (code : Code). KeepsCode names code d) (sym c.as_ref.ensures) is.own) c.args.name c.len-count.result
+    (c.is_called.ensures.same c.if-not-is_called.false).0 (c.is_called.ensures.same c.if-not-is_called.false).1
     ∙ ap (λ (n : ℕ). Some (key text n)) c.len-count.ensures in
     let same = call_key a l calls text named d.head found in
     let keeps : KeepsCode names c.as_ref-2.result.now d =
@@ -136,8 +141,9 @@ returns-clause-last g c = λ fs d t ms done framed is calls list.
     let names = g.S.Store.names c.args.store.now in
     let text = text_at names c.args.name in
     let named = call_named a l calls text (g.met.S.Cells.named c.args.store.now c.args.name calls.known).1 in
-    let found = c.is_called.ensures.same d
-    (subst (λ (code : Code). KeepsCode names code d) (sym c.as_ref.ensures) is.own) c.if-not-is_called.false
+    let found = called_key
+    (subst (λ (code : Code). KeepsCode names code d) (sym c.as_ref.ensures) is.own) c.args.name c.len-count.result
+    (c.is_called.ensures.same c.if-not-is_called.false).0 (c.is_called.ensures.same c.if-not-is_called.false).1
     ∙ ap (λ (n : ℕ). Some (key text n)) c.len-count.ensures in
     let same = call_key a l calls text named d.head found in
     let keeps : KeepsCode names c.as_ref-2.result.now d =

@@ -23,3 +23,6 @@ returns g c = λ w is.
     (c.named.ensures w (goal_put g.S.Store g.S.Cells.atom_word e c.args.name) is
     (goal_first p ws c.index-as_slice-0.result text c.requires.some
     (rw c.as_slice.ensures at c.index-as_slice-0.is)))
+
+pub named-requires-clause-each_once : goal.named-requires-clause-each_once
+named-requires-clause-each_once g c = g.met.S.Cells.once c.args.search.now.store
