@@ -35,6 +35,7 @@ use Rattle.iso_machine.specs.Came.{Came, CameLast, CameTo, IsBehindCalls}
 use Rattle.iso_machine.specs.declared.calling.Gone.{Gone}
 use Rattle.iso_machine.specs.Engines.{Engine, framed}
 use Rattle.iso_machine.specs.GoalCalls.{IsCallPut, IsShown}
+use Rattle.iso_machine.specs.Outcomes.{gone}
 use Rattle.iso_machine.specs.Steps.{IsByStep}
 use Rattle.iso_machine.proofs.FirstGoals.{came_left}
 
@@ -69,11 +70,6 @@ falls_before : (n : Next) (old mid new : ℕ) → mid ≤ old → FallsNext n mi
 falls_before calls.Went old mid new less falls = omega arith
 falls_before calls.Full old mid new less falls = tt
 falls_before calls.Other old mid new less falls = omega arith
-
--- what a call comes to behind one that went on: where it is left, the engine went on to it
-abbrev pub gone : Result Next StoreFault → Result Next StoreFault
-gone (Ok calls.Other) = Ok calls.Went
-gone result = result
 
 falls_on : (n : Next) (old mid new : ℕ) → mid < old → FallsNext n mid new
     → IfOk (gone (Ok n)) (λ m. FallsNext m old new)

@@ -13,5 +13,6 @@ pub mod LastCalls
 pub mod Lists
 pub mod MemberLaws
 pub mod Newest
+pub mod Outcomes
 pub mod Steps
 pub mod Wholes

@@ -29,6 +29,7 @@ use super::calling::Gone;
 use super::control::cut_back;
 use super::framed::{Framed, KeptCall};
 use super::goal_places::{Act, GoalPlace, act_there, put_next};
+use super::outcomes::{behind_others, fails_now};
 use super::putting::{called_put, go, show_goal, show_next};
 use super::retrying::try_next;
 use iso_atoms::Atom;
@@ -106,7 +107,8 @@ fn go_word<S: Cells + Drop>(
 }
 
 /// Calls the procedure of the goal that comes first, which the word stands for, where it is one with clauses and a step
-/// is left; anything else is left as it is. The errors: the store is full, or memory was refused.
+/// is left; where it fails as it is, that is done. Anything else is left as it is. The errors: the store is full, or
+/// memory was refused.
 pub(crate) fn call_word<S: Cells + Drop>(
     search: &mut Search<S, Framed<S>>,
     goal: S::Word,
@@ -124,6 +126,10 @@ pub(crate) fn call_word<S: Cells + Drop>(
         *asked = Some(NextGoal { goal, rest, called });
         return Ok(Next::Other);
     }
+    if fails_now(&called) {
+        goal_fails(search);
+        return Ok(Next::Went);
+    }
     match called {
         Called::User(clause) => go_word(search, clause, &mut later, goal, rest),
         called => {
@@ -133,8 +139,9 @@ pub(crate) fn call_word<S: Cells + Drop>(
     }
 }
 
-/// Calls the goal whose arguments were put, where it has none: it comes first as a word. It is called then, or left for
-/// the next move where a call went before it. The errors: the store is full, or memory was refused.
+/// Calls the goal whose arguments were put, where it has none: it comes first as a word, and is called then. Where a
+/// call went before it, what is left of it is left to the next move. The errors: the store is full, or memory was
+/// refused.
 fn call_atom<S: Cells + Drop>(
     search: &mut Search<S, Framed<S>>,
     put: Put,
@@ -152,10 +159,11 @@ fn call_atom<S: Cells + Drop>(
         → Came S.Store S.atom_word old result asked.new search.new }
 {
     let goal = show_goal(search, put.name, put.behind)?;
+    let came = call_word(search, goal, put.behind, asked);
     if went {
-        return Ok(Next::Went);
+        return behind_others(came);
     }
-    call_word(search, goal, put.behind, asked)
+    came
 }
 
 /// Does the goal whose arguments were put, which calls this and no clause now, where it fails as it is or is one of a

@@ -13,6 +13,7 @@ mod goal_places;
 mod goals;
 pub mod machine;
 mod members;
+mod outcomes;
 mod putting;
 mod retrying;
 mod room;

@@ -1,5 +1,5 @@
 -- The step of a goal of a built-in whose arguments were put, and of one that fails as it is.
-use Rattle.std.proofs.Common.{◌≡◌, ◌≢◌, ◌≤◌, ◌<◌, ◌+◌, ◌-◌, ℕ, suc, List, [], ◌∷◌, length, map, Option, Result, Ok, Err, refl, sym, ap, ap₂, ◌∙◌, subst, arith, true, Vec, Global}
+use Rattle.std.proofs.Common.{◌≡◌, ◌≢◌, ◌≤◌, ◌<◌, ◌+◌, ◌-◌, ◌⊎◌, inl, inr, ℕ, suc, List, [], ◌∷◌, length, map, Option, Result, Ok, Err, refl, sym, ap, ap₂, ◌∙◌, subst, arith, true, Vec, Global}
 use Rattle.std.specs.List.{All}
 use Rattle.std.proofs.lemmas.List.{length-map}
 use Rattle.iso_atoms.specs.Texts.{text_at}
@@ -13,6 +13,7 @@ use Rattle.iso_model.specs.Search.Walker.{State, World, Member}
 use Rattle.iso_model.specs.declared.built_ins.BuiltIn.TheVariants as built_in
 use Rattle.iso_model.specs.declared.kinds.Library.{Library}
 use Rattle.iso_model.specs.declared.pauses.Ball.{Ball}
+use Rattle.iso_db.specs.declared.keyed.KeyedView.{KeyedView}
 use Rattle.iso_store_core.specs.ArgumentWords.{AreArguments}
 use Rattle.iso_store_core.specs.Presents.{Holds, Present, meaning}
 use Rattle.iso_store_core.specs.Retaining.{Retains, Takes}
@@ -41,13 +42,15 @@ use Rattle.iso_frames.specs.declared.frames.Rest.{Rest}
 use Rattle.iso_frames.specs.declared.frames.Next.{Next}
 use Rattle.iso_frames.specs.Costs.{first_cost}
 use Rattle.iso_environments.specs.Goals.{goal_of}
-use Rattle.iso_search.specs.Called.{FailsAt}
-use Rattle.iso_search.specs.EngineStates.{IsAhead, IsBehind, Keeps, Moves, Refused, Represents, cost, kept_cost, phase_of, weight}
+use Rattle.iso_search.specs.Called.{FailsAt, IsCalled}
+use Rattle.iso_search.specs.EngineStates.{IsAhead, IsBehind, Keeps, Moves, Refused, Represents, cost, kept_cost, leaves_of, phase_of, weight}
 use Rattle.iso_search.specs.Faults.{Throws}
 use Rattle.iso_search.specs.Moved.{Moved}
 use Rattle.iso_search.specs.Nexts.{IsGoalFirst}
 use Rattle.iso_search.specs.Stays.{Stays}
 use Rattle.iso_search.specs.Worlds.{IsWorld}
+use Rattle.iso_search.specs.declared.calls.Called.{Called}
+use Rattle.iso_search.specs.declared.calls.Called.TheVariants as called_as
 use Rattle.iso_search.specs.declared.calls.Next.TheVariants as calls
 use Rattle.iso_search.specs.declared.search.Move.{Move}
 use Rattle.iso_search.specs.declared.search.Move.TheVariants as move
@@ -169,6 +172,22 @@ module _ {S W M : Type 0} (g : Ghosts S W M) (atom_word : ℕ → W) where
     word_misses misses =
         word_failed (λ s r. fails_unknown g (framed atom_word) e s goal behind first r more
         (misses r.own.world r.engine.world))
+
+    -- one that calls what fails at once
+    pub word_fails_now : (called : Called) (later : KeyedView) (s : State) → Represents g (framed atom_word) e s
+        → ((w : World) → IsWorld g (framed atom_word) e w
+        → IsCalled (leaves_of g (framed atom_word) e) later w (meaning (g.present e.store) goal) called)
+        → (called ≡ called_as.Fails) ⊎ (called ≡ called_as.BuiltIn built_in.Fail)
+        → CameTo g atom_word e (Ok calls.Went) (record e { steps = e.steps - 1; now = now.Failing })
+    word_fails_now called later s r calling (inl is) =
+        word_misses (λ w world.
+        subst (λ (x : Called). IsCalled (leaves_of g (framed atom_word) e) later w (meaning (g.present e.store) goal) x)
+        is (calling w world))
+    word_fails_now called later s r calling (inr is) =
+        word_fails
+        (subst (λ (x : Called).
+        IsCalled (leaves_of g (framed atom_word) e) later r.own.world (meaning (g.present e.store) goal) x) is
+        (calling r.own.world r.engine.world))
 
   -- ---- a goal of a built-in was answered
 
