@@ -7,7 +7,7 @@ use Rattle.std.proofs.lemmas.List.{drop_all, drop_more, length-take, length-appe
 use Rattle.std.proofs.lemmas.List.Elements.{filter_map-append}
 use Rattle.iso_clauses.specs.Clauses.{Clause}
 use Rattle.iso_clauses.specs.Blocks.{Ids, Kept, ids, ids_from, block_of}
-use Rattle.iso_clauses.specs.Kept.{older_of, block_in, block_at, Trimmed, Giving}
+use Rattle.iso_clauses.specs.Kept.{older_of, block_in, block_at, pending, view_now, Trimmed, Giving}
 use Rattle.iso_clauses.specs.declared.slots.Slot.{Slot}
 use Rattle.iso_clauses.specs.declared.views.View.{View}
 use Rattle.iso_clauses.specs.Slots.{lives, given_by, clause_at, value_at, given}
@@ -15,6 +15,22 @@ use Rattle.iso_clauses.specs.Stepping.{Steps, first_number}
 
 pub length-ids_from : (b : Ids) (outer : ℕ) → outer ≤ length b.front → length (ids_from b outer) ≡ outer + length b.back
 length-ids_from b outer h = omega (arith, length-append (reverse (take outer b.front)) b.back, length-reverse (take outer b.front), length-take outer b.front)
+
+-- where all were added at the end, a view of the block as it is has these numbers from a position on
+pub at_end-pending : (entries : List Kept) (place : ℕ) (e : Kept) (made next : ℕ) → slice_get entries place ≡ Some e → e.current.front ≡ []
+    → pending entries (record (view_now place made e) { next = next }) ≡ drop next e.current.back
+at_end-pending entries place e made next at none =
+    ap (λ x. drop next (take end (ids_from (block_in x (length e.older)) outer))) at
+    ∙ ap (λ x. drop next (take end (ids_from x outer))) (get_or_past e.older (length e.older) e.current (omega arith))
+    ∙ ap (λ ns. drop next (take end (reverse ns ++ e.current.back))) (take_all outer e.current.front (omega arith))
+    ∙ ap (λ ns. drop next (take end (reverse ns ++ e.current.back))) none
+    ∙ ap (drop next) (take_all end e.current.back (omega arith))
+  where
+    outer : ℕ
+    outer = length e.current.front
+
+    end : ℕ
+    end = length e.current.front + length e.current.back
 
 module _ {C : Type 0} where
   -- the clause of a number has that number
@@ -114,6 +130,11 @@ module _ {C : Type 0} where
       behind_dead : given slots r (ids e.current) ≡ given slots r (drop e.first (ids e.current))
       behind_dead = ap (given slots r) (sym (take-append-drop e.first (ids e.current))) ∙ filter_map-append (clause_at slots r) (take e.first (ids e.current)) (drop e.first (ids e.current))
           ∙ ap (λ cs. cs ++ given slots r (drop e.first (ids e.current))) (given-dead slots r (take e.first (ids e.current)) trimmed.dead)
+
+  -- a view gives what is given from any position on
+  pub Giving-at : (slots : List (Slot C)) (r : ℕ) (entries : List Kept) (v : View) (cs : List (Clause C)) (next : ℕ) → Giving slots r entries v cs
+      → Giving slots r entries (record v { next = next }) (given slots v.made (pending entries (record v { next = next })))
+  Giving-at slots r entries v cs next g = record { procedure = g.procedure; block = g.block; outer = g.outer; end = g.end; made = g.made; clauses = refl }
 
   -- a view that is at its end gives nothing
   pub Giving-ended : (slots : List (Slot C)) (r : ℕ) (entries : List Kept) (v : View) (cs : List (Clause C)) → v.end ≤ v.next → Giving slots r entries v cs → cs ≡ []

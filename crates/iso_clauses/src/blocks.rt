@@ -1,6 +1,6 @@
 //! What is kept of a procedure, or of a part of one: blocks of the numbers of its clauses. A block only grows, so that a
 //! view knows the clauses of its making by how long the block was.
-ghost use Rattle.std.specs.Prelude.{◌≡◌, ◌≤◌, ◌<◌, ◌+◌, ◌++◌, ◌∷◌, [], ℕ, length, get_or, OnOk, OnErr};
+ghost use Rattle.std.specs.Prelude.{◌≡◌, ◌≤◌, ◌<◌, ◌+◌, ◌++◌, ◌∷◌, [], ℕ, true, length, get_or, OnOk, OnErr};
 ghost use Rattle.iso_clauses.specs.Blocks.{Ids, Kept, ids_from, block_of, no_ids, nothing_kept, grown, passed, pushed, forgotten};
 
 use super::ids::ClauseId;
@@ -81,7 +81,8 @@ impl Block {
     }
 
     /// The numbers that were added at the end.
-    pub(crate) fn back(&self) -> &[ClauseId]
+    #[inline(always)]
+    pub fn back(&self) -> &[ClauseId]
         ensures { result.now ≡ self.now.back }
     {
         self.back.as_slice()
@@ -145,7 +146,7 @@ impl Entry {
     const FEW: usize = 8;
 
     /// Of so many clauses a call passes over those that it can't use.
-    const SHORT: usize = 8;
+    const SHORT: usize = 12;
 
     /// No clauses. Takes no memory.
     pub fn new(alloc: Global) -> Entry
@@ -181,7 +182,7 @@ impl Entry {
 
     /// How many of the block's first numbers new views pass over.
     #[inline(always)]
-    pub(crate) fn first(&self) -> usize
+    pub fn first(&self) -> usize
         ensures { result ≡ self.now.first }
     {
         self.first
@@ -215,6 +216,14 @@ impl Entry {
     #[inline(always)]
     pub fn is_short(&self) -> bool {
         self.current.len() <= Entry::SHORT
+    }
+
+    /// Whether there are so few numbers, and all were added at the end.
+    #[inline(always)]
+    pub fn is_short_at_end(&self) -> bool
+        ensures { result ≡ true → self.now.current.front ≡ [] }
+    {
+        self.current.front.is_empty() && self.current.back.len() <= Entry::SHORT
     }
 
     /// Counts a removal, and tells whether so many of the block's clauses were removed that it is to be made anew.

@@ -1,5 +1,5 @@
 -- How views by key begin.
-use Rattle.std.proofs.Common.{◌≡◌, ◌+◌, ℕ, ◌<◌, true, false, List, [], length, get_or, filter, Option, Some, None, is_some, refl, sym, ap, ◌∙◌, subst, arith, true≢false}
+use Rattle.std.proofs.Common.{◌≡◌, ◌+◌, ℕ, ◌<◌, true, false, List, [], length, get_or, drop, filter, Option, Some, None, is_some, refl, sym, ap, ◌∙◌, subst, arith, true≢false}
 use Rattle.std.specs.List.{slice_get}
 use Rattle.std.proofs.lemmas.Option.{slice_get_within, slice_get-get_or}
 use Rattle.std.proofs.lemmas.Bool.{false≢true}
@@ -9,19 +9,22 @@ use Rattle.iso_db.specs.Databases.{clauses_of}
 use Rattle.iso_clauses.specs.Blocks.{Kept, ids}
 use Rattle.iso_clauses.specs.Slots.{procedure_of, is_front, given, key_at}
 use Rattle.iso_db.specs.Shown.{shown}
-use Rattle.iso_clauses.specs.Kept.{view_now, IsKept}
+use Rattle.iso_clauses.specs.Kept.{view_now, pending, IsKept, Giving}
 use Rattle.iso_clauses.specs.Fits.{has_key, fits}
+use Rattle.iso_clauses.specs.Stepping.{Steps, first_number, behind}
 use Rattle.iso_db.specs.Parts.{IsIndexed}
-use Rattle.iso_db.specs.Keyed.{Offers, Leads, GivingKeyed}
+use Rattle.iso_db.specs.Keyed.{Offers, Leads, GivingKeyed, usable}
+use Rattle.iso_db.specs.declared.keyed.Ahead.{Ahead}
 use Rattle.iso_db.specs.declared.keyed.KeyedView.{KeyedView}
 use Rattle.iso_clauses.specs.declared.keys.FirstKey.{FirstKey}
 use Rattle.iso_db.specs.declared.parts.Part.{Part}
 use Rattle.iso_clauses.specs.declared.slots.Slot.{Slot}
+use Rattle.iso_clauses.specs.declared.views.View.{View}
 use Rattle.iso_db.proofs.PlaceLemmas.{clauses-there}
-use Rattle.iso_clauses.proofs.ViewLemmas.{Giving-new}
+use Rattle.iso_clauses.proofs.ViewLemmas.{Giving-new, Giving-at, at_end-pending}
 use Rattle.iso_clauses.proofs.OrderLemmas.{AreInOrder, numbers}
 use Rattle.iso_db.proofs.PartLemmas.{part_clauses, no_clauses, given_order}
-use Rattle.iso_db.proofs.KeyedLemmas.{parts_begun, all_usable}
+use Rattle.iso_db.proofs.KeyedLemmas.{parts_begun, whole_begun, all_usable, behind_stand, offers_stand}
 
 -- a clause with a key isn't one without
 keys_apart : (key other : Option FirstKey) → is_some key ≡ true → has_key key other ≡ true → has_key None other ≡ true → ⊥
@@ -81,3 +84,65 @@ module _ {C : Type 0} where
       (subst (λ cs. AreInOrder (is_front slots) (numbers cs)) (sym (clauses-there slots r heads entries place d kept.same within))
       (given_order procedure_of slots r (length heads) entries place (get_or entries place d) kept (slice_get-get_or entries place d within)))
       own any
+
+  -- a view of the procedure at a place gives its clauses
+  pub procedure_gives : (slots : List (Slot C)) (r : ℕ) (heads : List Heading) (entries : List Kept) (place : ℕ) (d : Kept) → IsKept procedure_of slots r (length heads) entries → place < length entries
+      → Giving slots r entries (view_now place r (get_or entries place d)) (clauses_of (slice_get (shown slots r heads entries) place))
+  procedure_gives slots r heads entries place d kept within =
+      subst (λ (cs : List (Clause C)). Giving slots r entries (view_now place r e) cs) (sym (clauses-there slots r heads entries place d kept.same within))
+      (Giving-new slots r entries place e (length e.older) (length e.current.front) (length e.current.front + length e.current.back) at (kept.trimmed place e at) refl refl refl)
+    where
+      e : Kept
+      e = get_or entries place d
+
+      at : slice_get entries place ≡ Some e
+      at = slice_get-get_or entries place d within
+
+  -- where all clauses were added at the end, they are those of the numbers from the first on
+  all_given : (slots : List (Slot C)) (r : ℕ) (entries : List Kept) (place : ℕ) (e : Kept) (all : List (Clause C)) → slice_get entries place ≡ Some e → e.current.front ≡ [] → Giving slots r entries (view_now place r e) all
+      → given slots r (drop e.first e.current.back) ≡ all
+  all_given slots r entries place e all at none gives = sym (ap (given slots r) (at_end-pending entries place e r e.first at none)) ∙ gives.clauses
+
+  -- the first of them that a call may use, and those behind it
+  pub short_taken : (slots : List (Slot C)) (r : ℕ) (entries : List Kept) (place : ℕ) (key : Option FirstKey) (e : Kept) (all : List (Clause C)) (first : Option ℕ) (start : ℕ) → slice_get entries place ≡ Some e → e.current.front ≡ [] → Giving slots r entries (view_now place r e) all
+      → Steps (usable slots key (given slots r (drop e.first e.current.back))) first (usable slots key (given slots r (drop start e.current.back)))
+      → Steps (usable slots key all) first (usable slots key (given slots r (drop start e.current.back)))
+  short_taken slots r entries place key e all first start at none gives steps =
+      subst (λ cs. Steps (usable slots key cs) first (usable slots key (given slots r (drop start e.current.back)))) (all_given slots r entries place e all at none gives) steps
+
+  -- a view of the whole whose next clause was taken ahead gives those behind the first
+  pub short_left : (slots : List (Slot C)) (r : ℕ) (entries lists : List Kept) (place : ℕ) (key : Option FirstKey) (e : Kept) (all : List (Clause C)) (first second : Option ℕ) (start next : ℕ) (v : KeyedView)
+      → slice_get entries place ≡ Some e → e.current.front ≡ [] → Giving slots r entries (view_now place r e) all
+      → Steps (usable slots key all) first (usable slots key (given slots r (drop start e.current.back)))
+      → Steps (usable slots key (given slots r (drop start e.current.back))) second (usable slots key (given slots r (drop next e.current.back)))
+      → v.whole ≡ true → v.key ≡ key → v.own ≡ record { next = second; rest = record (view_now place r e) { next = next } } → v.any.next ≡ None
+      → GivingKeyed slots r entries lists v (behind (usable slots key all))
+  short_left slots r entries lists place key e all first second start next v at none gives one two whole keyed own any =
+      whole_begun slots r entries lists v (behind (usable slots key all)) whole (subst (λ (k : Option FirstKey). Leads slots r entries k v.own (behind (usable slots key all))) (sym keyed)
+      (subst (λ (a : Ahead). Leads slots r entries key a (behind (usable slots key all))) (sym own) leads)) any
+    where
+      rest : View
+      rest = record (view_now place r e) { next = next }
+
+      numbers : List ℕ
+      numbers = drop next e.current.back
+
+      leads : Leads slots r entries key (record { next = second; rest = rest }) (behind (usable slots key all))
+      leads = record {
+        first = two.0 ∙ ap first_number one.1;
+        rest = λ some. record {
+          all = given slots r (pending entries rest);
+          gives = Giving-at slots r entries (view_now place r e) all next gives;
+          are = ap (λ ns. usable slots key (given slots r ns)) (at_end-pending entries place e r next at none) ∙ two.1 ∙ ap behind one.1;
+        };
+        stand = behind_stand slots (usable slots key all) (offers_stand slots r entries key (view_now place r e) (usable slots key all) (record { all = all; gives = gives; are = refl }));
+      }
+
+  -- the same numbers are gone through
+  pub steps_same : (slots : List (Slot C)) (key : Option FirstKey) (made r start first : ℕ) (numbers same : List ℕ) (o : Option ℕ) (next : ℕ) → made ≡ r → start ≡ first → numbers ≡ same
+      → Steps (usable slots key (given slots made (drop start numbers))) o (usable slots key (given slots made (drop next numbers)))
+      → Steps (usable slots key (given slots r (drop first same))) o (usable slots key (given slots r (drop next same)))
+  steps_same slots key made r start first numbers same o next is_made is_start is_same steps =
+      subst (λ ns. Steps (usable slots key (given slots r (drop first ns))) o (usable slots key (given slots r (drop next ns)))) is_same
+      (subst (λ k. Steps (usable slots key (given slots r (drop k numbers))) o (usable slots key (given slots r (drop next numbers)))) is_start
+      (subst (λ q. Steps (usable slots key (given slots q (drop start numbers))) o (usable slots key (given slots q (drop next numbers)))) is_made steps))

@@ -65,6 +65,16 @@ module _ {C : Type 0} where
   }
   spent_gives slots r entries lists v (c ∷ cs) spent none = absurd (true≢false none)
 
+  -- behind no clause there is none
+  pub none_behind : (cs : List (Clause C)) → is_some (first_number cs) ≡ false → is_some (first_number (behind cs)) ≡ false
+  none_behind [] none = refl
+  none_behind (c ∷ cs) none = absurd (true≢false none)
+
+  -- where there is no first clause, its number is none
+  pub none_first : (cs : List (Clause C)) → is_some (first_number cs) ≡ false → None ≡ first_number cs
+  none_first [] none = refl
+  none_first (c ∷ cs) none = absurd (true≢false none)
+
   -- the next clause is one with the key of the call, or one without
   own_told : (slots : List (Slot C)) (r : ℕ) (entries lists : List Kept) (v : KeyedView) (cs : List (Clause C)) (g : GivingKeyed slots r entries lists v cs) → is_own_first (is_front slots) v.own.next v.any.next ≡ true
       → (v.own.next ≡ first_number cs) × (merged g.front (behind g.own_clauses) g.any_clauses ≡ behind cs)
@@ -246,20 +256,20 @@ module _ {C : Type 0} where
       filter_each slots (λ d. fits key (key_at slots d.number)) offers.all (gives_stand slots r lists v offers.all offers.gives) k c (ap (λ ds. slice_get ds k) offers.are ∙ at)
 
   -- a clause that the call can't use is passed over
+  pub usable_passed : (slots : List (Slot C)) (key : Option FirstKey) (n : ℕ) (ds : List (Clause C)) → Some n ≡ first_number ds → fits key (key_at slots n) ≡ false → usable slots key (behind ds) ≡ usable slots key ds
+  usable_passed slots key n [] is not_fit = absurd (none-some n (sym is))
+  usable_passed slots key n (d ∷ ds) is not_fit = sym (ap (λ b. cond b (d ∷ usable slots key ds) (usable slots key ds)) (ap (λ m. fits key (key_at slots m)) (sym (same_Some n d.number is)) ∙ not_fit))
+
   pub offers_passed : (slots : List (Slot C)) (r : ℕ) (lists : List Kept) (key : Option FirstKey) (v w : View) (cs : List (Clause C)) (n : ℕ) → ((ds : List (Clause C)) → Giving slots r lists v ds → Some n ≡ first_number ds)
       → ((ds : List (Clause C)) → Giving slots r lists v ds → Giving slots r lists w (behind ds)) → fits key (key_at slots n) ≡ false → Offers slots r lists key v cs → Offers slots r lists key w cs
   offers_passed slots r lists key v w cs n first rest not_fit offers = record {
     all = behind offers.all;
     gives = rest offers.all offers.gives;
-    are = by offers.all (first offers.all offers.gives) ∙ offers.are;
+    are = usable_passed slots key n offers.all (first offers.all offers.gives) not_fit ∙ offers.are;
   }
-    where
-      by : (ds : List (Clause C)) → Some n ≡ first_number ds → usable slots key (behind ds) ≡ usable slots key ds
-      by [] is = absurd (none-some n (sym is))
-      by (d ∷ ds) is = sym (ap (λ b. cond b (d ∷ usable slots key ds) (usable slots key ds)) (ap (λ m. fits key (key_at slots m)) (sym (same_Some n d.number is)) ∙ not_fit))
 
   -- one that it can use is taken
-  usable_taken : (slots : List (Slot C)) (key : Option FirstKey) (n : ℕ) (ds : List (Clause C)) → Some n ≡ first_number ds → fits key (key_at slots n) ≡ true → (Some n ≡ first_number (usable slots key ds)) × (usable slots key (behind ds) ≡ behind (usable slots key ds))
+  pub usable_taken : (slots : List (Slot C)) (key : Option FirstKey) (n : ℕ) (ds : List (Clause C)) → Some n ≡ first_number ds → fits key (key_at slots n) ≡ true → (Some n ≡ first_number (usable slots key ds)) × (usable slots key (behind ds) ≡ behind (usable slots key ds))
   usable_taken slots key n [] is fit = absurd (none-some n (sym is))
   usable_taken slots key n (d ∷ ds) is fit =
       let used : usable slots key (d ∷ ds) ≡ d ∷ usable slots key ds =

@@ -1,14 +1,14 @@
 //! The database: procedures with their clauses, and views of them.
 ghost use Rattle.std.specs.Prelude.{◌≡◌, ◌≢◌, ◌<◌, ◌≤◌, ◌+◌, ◌^◌, ◌++◌, ◌∷◌, [], ℕ, true, List, Some, None, length, slice_set, slice_index_or, filter, IfOk, IfErr, IfSome, OnOk, OnErr, IsSome, IsOk, is_ok, is_some, ◌↔◌};
 ghost use Rattle.std.proofs.Props.{props};
-ghost use Rattle.iso_clauses.specs.Blocks.{nothing_kept};
+ghost use Rattle.iso_clauses.specs.Blocks.{Kept, nothing_kept};
 ghost use Rattle.iso_clauses.specs.Clauses.{Clause};
 ghost use Rattle.iso_clauses.specs.Slots.{procedure_of};
 ghost use Rattle.iso_clauses.specs.Kept.{IsKept, Giving};
 ghost use Rattle.iso_db.specs.Parts.{IsIndexed, Opens};
 ghost use Rattle.std.specs.List.{slice_get};
 
-use super::keyed::{Ahead, KeyedView, advance, begun, is_own_next};
+use super::keyed::{Ahead, KeyedView, advance, begun, is_own_next, next_usable, whole_behind};
 use super::kinds::{DbFault, Kind};
 use super::parts::Parts;
 use super::places::Places;
@@ -233,21 +233,54 @@ impl<C: Drop> Db<C> {
         Some(first)
     }
 
-    /// Begins with a view of parts, as `begin` does.
+    /// Begins with a view of parts or of all clauses, as `begin` does.
     #[inline(never)]
-    fn begin_parts(
+    fn begin_long(
         &self,
         place: usize,
         key: Option<FirstKey>,
         later: &mut KeyedView,
     ) -> Option<ClauseId>
         requires place { place < length (contents self.now).procedures }
-        requires key { is_some key ≡ true }
         requires nothing { remaining_keyed later.old ≡ 0 }
         ensures begins { Begins self.now (filter (λ c. fits key (key_in self.now c.number))
             (clauses_at (contents self.now) place)) result later.new }
     {
-        self.take_first(self.parts_view(place, key), later)
+        let entry = &self.entries[place];
+        if key.is_some() && !entry.is_short() {
+            return self.take_first(self.parts_view(place, key), later);
+        }
+        let view = view_of(entry, place, self.removals);
+        self.take_first(self.whole_view(place, key, view), later)
+    }
+
+    /// Begins with a view of all clauses, as `begin` does, where all were added at the end: their numbers are gone
+    /// through at once.
+    #[inline(always)]
+    fn begin_short(
+        &self,
+        place: usize,
+        key: Option<FirstKey>,
+        later: &mut KeyedView,
+    ) -> Option<ClauseId>
+        requires place { place < length (contents self.now).procedures }
+        requires at_end { (e : Kept) → slice_get self.now.entries.items place ≡ Some e → e.current.front ≡ [] }
+        requires nothing { remaining_keyed later.old ≡ 0 }
+        ensures begins { Begins self.now (filter (λ c. fits key (key_in self.now c.number))
+            (clauses_at (contents self.now) place)) result later.new }
+    {
+        let entry = &self.entries[place];
+        let numbers = entry.current().back();
+        let view = view_of(entry, place, self.removals);
+        let (first, start) = next_usable(&self.slots, numbers, key, view.made, view.next);
+        if first.is_none() {
+            return None;
+        }
+        let (second, next) = next_usable(&self.slots, numbers, key, view.made, start);
+        if second.is_some() {
+            *later = whole_behind(key, second, View { next, ..view });
+        }
+        first
     }
 
     /// The first clause of a view of the clauses of the procedure at this place, as `view` makes it, if there is one;
@@ -268,11 +301,13 @@ impl<C: Drop> Db<C> {
         ensures unknown { IfErr result (λ fault. fault ≡ Unknown) }
         ensures unchanged { OnErr result (later.new ≡ later.old) }
     {
-        let view = self.list_view(place)?;
-        if key.is_some() && !self.entries[place].is_short() {
-            return Ok(self.begin_parts(place, key, later));
+        if self.kind(place).is_none() {
+            return Err(DbFault::Unknown);
         }
-        Ok(self.take_first(self.whole_view(place, key, view), later))
+        if self.entries[place].is_short_at_end() {
+            return Ok(self.begin_short(place, key, later));
+        }
+        Ok(self.begin_long(place, key, later))
     }
 
     /// Whether a view has another clause to give. Takes one step, and no memory.

@@ -1,14 +1,14 @@
 //! Views by key: of a procedure the clauses that a call may use. They are always one clause ahead, so that it is seen
 //! at once whether another clause is left.
-ghost use Rattle.std.specs.Prelude.{◌≡◌, ◌<◌, ◌≤◌, ◌-◌, ◌^◌, ℕ, true, List, Some, None, is_some, IfSome};
+ghost use Rattle.std.specs.Prelude.{◌≡◌, ◌<◌, ◌≤◌, ◌-◌, ◌^◌, ℕ, true, List, Some, None, drop, is_some, IfSome};
 ghost use Rattle.iso_clauses.specs.Clauses.{Clause};
-ghost use Rattle.iso_clauses.specs.Stepping.{first_number, behind};
+ghost use Rattle.iso_clauses.specs.Stepping.{Steps, first_number, behind};
 ghost use Rattle.iso_clauses.specs.Orders.{comes_before};
-ghost use Rattle.iso_clauses.specs.Slots.{is_front, key_at};
+ghost use Rattle.iso_clauses.specs.Slots.{given, is_front, key_at};
 ghost use Rattle.iso_clauses.specs.Fits.{fits};
-ghost use Rattle.iso_db.specs.Keyed.{Offers, Leads, is_own_first, remaining_ahead, remaining_keyed};
+ghost use Rattle.iso_db.specs.Keyed.{Offers, Leads, is_own_first, remaining_ahead, remaining_keyed, usable};
 
-use iso_clauses::{ClauseId, Entry, FirstKey, Slot, View, fits, is_front, next_from};
+use iso_clauses::{ClauseId, Entry, FirstKey, Slot, View, fits, is_front, is_given, next_from};
 
 /// A view whose next clause was taken ahead.
 #[derive(Clone, Copy, Debug)]
@@ -45,6 +45,15 @@ impl KeyedView {
             any: Ahead::nothing(),
         }
     }
+
+    /// From now on the view gives no clause.
+    #[inline(always)]
+    pub fn clear(&mut self)
+        ensures { remaining_keyed self.new ≡ 0 }
+    {
+        self.own.clear();
+        self.any.clear();
+    }
 }
 
 impl Ahead {
@@ -63,6 +72,15 @@ impl Ahead {
             made: 0,
         };
         Ahead { next: None, rest }
+    }
+
+    /// From now on there are no clauses.
+    #[inline(always)]
+    fn clear(&mut self)
+        ensures { remaining_ahead self.new ≡ 0 }
+    {
+        self.next = None;
+        self.rest.end = 0;
     }
 }
 
@@ -104,6 +122,52 @@ fn next_fitting<C>(
         }
     }
     None
+}
+
+/// The next of these numbers, from the position `start` on, whose clause a view gives that was made after so many
+/// removals, and that a call with this key may use; and the position behind it.
+#[inline(always)]
+pub(crate) fn next_usable<C>(
+    slots: &Vec<Slot<C>>,
+    numbers: &[ClauseId],
+    key: Option<FirstKey>,
+    made: usize,
+    start: usize,
+) -> (Option<ClauseId>, usize)
+    ensures steps { Steps (usable slots.now.items key (given slots.now.items made (drop start numbers.now))) result.0
+        (usable slots.now.items key (given slots.now.items made (drop result.1 numbers.now))) }
+    ensures later { start ≤ result.1 }
+{
+    let mut next = start;
+    while next < numbers.len() {
+        let id = numbers[next];
+        next += 1;
+        if is_given(slots.as_slice(), id, made) && may_use(slots, key, id) {
+            return (Some(id), next);
+        }
+    }
+    (None, next)
+}
+
+/// A view of a whole procedure, for a call with this key, whose next clause was taken ahead.
+#[inline(always)]
+pub(crate) fn whole_behind(
+    key: Option<FirstKey>,
+    next: Option<ClauseId>,
+    rest: View,
+) -> KeyedView
+    ensures whole { result.whole ≡ true }
+    ensures key { result.key ≡ key }
+    ensures own { result.own ≡ record { next = next; rest = rest } }
+    ensures any { result.any.next ≡ None }
+    ensures few { remaining_keyed result ≤ 2 ^ 65 }
+{
+    KeyedView {
+        whole: true,
+        key,
+        own: Ahead { next, rest },
+        any: Ahead::nothing(),
+    }
 }
 
 /// The view with the first clause taken ahead that a call with this key may use.

@@ -1,9 +1,7 @@
--- The clauses that the view of the whole gives.
-use Rattle.std.proofs.Common.{List, filter, arith}
-use Rattle.iso_clauses.specs.Clauses.{Clause}
-use Rattle.iso_clauses.specs.Fits.{fits}
-use Rattle.iso_db.specs.Databases.{clauses_at}
-use Rattle.iso_db.specs.Presents.{contents, key_in}
+-- The list of the procedure is there.
+use Rattle.std.proofs.Common.{◌≡◌, ◌∙◌, sym, ap, arith, get_or}
+use Rattle.std.proofs.lemmas.Option.{slice_get-get_or, same_Some}
+use Rattle.iso_clauses.specs.Blocks.{Kept}
 use Rattle.iso_db.proofs.PlaceLemmas.{shown_within}
 use Rattle.iso_db.proofs.db.Db.begin.Goals as goal
 
@@ -12,14 +10,12 @@ index-requires g c =
     let db = c.args.self.now in
     omega (arith, shown_within db.slots.items db.removals db.places db.entries.items c.args.place db.kept.same c.requires.place, db.entries.ok.0)
 
-pub returns-clause-begins : goal.returns-clause-begins
-returns-clause-begins g c =
+pub begin_short-requires-clause-at_end : goal.begin_short-requires-clause-at_end
+begin_short-requires-clause-at_end g c = λ e at.
     let db = c.args.self.now in
-    let cs : List (Clause g.row.C.Denot) = filter (λ c'. fits c.args.key (key_in db c'.number)) (clauses_at (contents db) c.args.place) in
-    let gives = c.whole_view.ensures.gives in
-    record {
-      is = c.take_first.ensures.first cs gives;
-      rest = c.take_first.ensures.rest cs gives;
-      stand = c.take_first.ensures.stand cs gives;
-      few = omega (arith, c.take_first.ensures.never_rises, c.whole_view.ensures.few);
-    }
+    let place = c.args.place in
+    let entry = c.index.result.now in
+    let within = shown_within db.slots.items db.removals db.places db.entries.items place db.kept.same c.requires.place in
+    let f : Kept = get_or db.entries.items place entry in
+    let is : e ≡ f = same_Some e f (sym at ∙ slice_get-get_or db.entries.items place entry within) in
+    ap (λ (x : Kept). x.current.front) (is ∙ sym c.index.ensures) ∙ c.is_short_at_end.ensures c.if-is_short_at_end.true

@@ -1,14 +1,12 @@
 -- The view begins with the block as it is.
-use Rattle.std.proofs.Common.{◌≡◌, ◌+◌, ◌∙◌, List, refl, sym, ap, subst, length, arith, not, is_some, get_or}
-use Rattle.std.proofs.lemmas.Option.{slice_get-get_or}
-use Rattle.iso_clauses.specs.Clauses.{Clause}
+use Rattle.std.proofs.Common.{◌≡◌, ◌∙◌, sym, ap, subst, arith, not, is_some, get_or}
 use Rattle.iso_db.specs.Databases.{clauses_at}
 use Rattle.iso_clauses.specs.Blocks.{Kept}
 use Rattle.iso_clauses.specs.Kept.{view_now, Giving}
 use Rattle.iso_clauses.specs.declared.views.View.{View}
 use Rattle.iso_db.specs.Presents.{contents}
-use Rattle.iso_db.proofs.PlaceLemmas.{shown_within, clauses-there}
-use Rattle.iso_clauses.proofs.ViewLemmas.{Giving-new}
+use Rattle.iso_db.proofs.BeginLemmas.{procedure_gives}
+use Rattle.iso_db.proofs.PlaceLemmas.{shown_within}
 use Rattle.iso_db.proofs.db.Db.list_view.Goals as goal
 
 pub index-requires : goal.index-requires
@@ -27,10 +25,8 @@ returns-clause-gives g c =
     let db = c.args.self.now in
     let place = c.args.place in
     let entry = c.index.result.now in
-    let within = shown_within db.slots.items db.removals db.places db.entries.items place db.kept.same c.requires in
     let e : Kept = get_or db.entries.items place entry in
+    let within = shown_within db.slots.items db.removals db.places db.entries.items place db.kept.same c.requires in
     let is : c.view_of.result ≡ view_now place db.removals e = c.view_of.ensures ∙ ap (view_now place db.removals) c.index.ensures in
-    let at = slice_get-get_or db.entries.items place entry within in
     subst (λ (w : View). Giving db.slots.items db.removals db.entries.items w (clauses_at (contents db) place)) (sym is)
-    (subst (λ (cs : List (Clause g.row.C.Denot)). Giving db.slots.items db.removals db.entries.items (view_now place db.removals e) cs) (sym (clauses-there db.slots.items db.removals db.places db.entries.items place entry db.kept.same within))
-    (Giving-new db.slots.items db.removals db.entries.items place e (length e.older) (length e.current.front) (length e.current.front + length e.current.back) at (db.kept.trimmed place e at) refl refl refl))
+    (procedure_gives db.slots.items db.removals db.places db.entries.items place entry db.kept within)

@@ -1,0 +1,1 @@
+-- A clause that isn't given, or that the call can't use, is passed over.
