@@ -14,6 +14,6 @@ pub use adding::add;
 pub use blocks::{Block, Entry, Side};
 pub use ids::ClauseId;
 pub use keys::{FirstKey, fits};
-pub use slots::{Label, Slot, belongs, is_front, is_given, kill, kill_all};
+pub use slots::{Label, Slot, belongs, is_front, is_given, is_there, kill, kill_all};
 pub use tidying::{forget_blocks, forget_values, tidy, trim, trim_parts};
 pub use views::{View, next_from, view_of};

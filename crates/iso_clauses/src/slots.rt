@@ -1,6 +1,6 @@
 //! What is kept of each clause that was ever added.
-ghost use Rattle.std.specs.Prelude.{◌≡◌, ◌<◌, length, is_some};
-ghost use Rattle.iso_clauses.specs.Slots.{lives, clause_at, procedure_at, is_place, is_front, IsCounted, Removes, Clears};
+ghost use Rattle.std.specs.Prelude.{◌≡◌, ◌<◌, ℕ, length, is_some};
+ghost use Rattle.iso_clauses.specs.Slots.{lives, given_by, clause_at, procedure_at, is_place, is_front, IsCounted, Removes, Clears};
 ghost use Rattle.iso_clauses.specs.Blocks.{ids};
 
 use super::blocks::{Block, Side};
@@ -43,6 +43,14 @@ fn lives(died: Option<usize>, made: usize) -> bool
     }
 }
 
+/// Whether a view that was made after so many removals gives the clause of this slot, if its block has it.
+#[inline(always)]
+pub fn is_there<C>(slot: &Slot<C>, made: usize) -> bool
+    ensures { (number : ℕ) → result ≡ is_some (given_by made number slot.now) }
+{
+    slot.value.is_some() && lives(slot.died, made)
+}
+
 /// Whether a view that was made after so many removals gives the clause of this number, if its block has it.
 #[inline(always)]
 pub fn is_given<C>(slots: &[Slot<C>], id: ClauseId, made: usize) -> bool
@@ -52,8 +60,7 @@ pub fn is_given<C>(slots: &[Slot<C>], id: ClauseId, made: usize) -> bool
     if place >= slots.len() {
         return false;
     }
-    let slot = &slots[place];
-    slot.value.is_some() && lives(slot.died, made)
+    is_there(&slots[place], made)
 }
 
 /// Whether the clause of this number was added to the procedure at this place.

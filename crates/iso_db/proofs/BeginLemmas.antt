@@ -1,13 +1,13 @@
 -- How views by key begin.
-use Rattle.std.proofs.Common.{◌≡◌, ◌+◌, ℕ, ◌<◌, true, false, List, [], length, get_or, drop, filter, Option, Some, None, is_some, refl, sym, ap, ◌∙◌, subst, arith, true≢false}
-use Rattle.std.specs.List.{slice_get}
+use Rattle.std.proofs.Common.{◌≡◌, ◌+◌, ℕ, ◌<◌, true, false, List, [], length, get_or, drop, reverse, ◌++◌, filter, Option, Some, None, is_some, refl, sym, ap, ◌∙◌, subst, arith, true≢false}
+use Rattle.std.specs.List.{slice_get, All}
 use Rattle.std.proofs.lemmas.Option.{slice_get_within, slice_get-get_or}
 use Rattle.std.proofs.lemmas.Bool.{false≢true}
 use Rattle.iso_db.specs.Keys.{Heading}
 use Rattle.iso_clauses.specs.Clauses.{Clause}
 use Rattle.iso_db.specs.Databases.{clauses_of}
 use Rattle.iso_clauses.specs.Blocks.{Kept, ids}
-use Rattle.iso_clauses.specs.Slots.{procedure_of, is_front, given, key_at}
+use Rattle.iso_clauses.specs.Slots.{procedure_of, list_at, is_front, given, key_at}
 use Rattle.iso_db.specs.Shown.{shown}
 use Rattle.iso_clauses.specs.Kept.{view_now, pending, IsKept, Giving}
 use Rattle.iso_clauses.specs.Fits.{has_key, fits}
@@ -21,6 +21,7 @@ use Rattle.iso_db.specs.declared.parts.Part.{Part}
 use Rattle.iso_clauses.specs.declared.slots.Slot.{Slot}
 use Rattle.iso_clauses.specs.declared.views.View.{View}
 use Rattle.iso_db.proofs.PlaceLemmas.{clauses-there}
+use Rattle.iso_clauses.proofs.LabelLemmas.{list_there, owned_now}
 use Rattle.iso_clauses.proofs.ViewLemmas.{Giving-new, Giving-at, at_end-pending}
 use Rattle.iso_clauses.proofs.OrderLemmas.{AreInOrder, numbers}
 use Rattle.iso_db.proofs.PartLemmas.{part_clauses, no_clauses, given_order}
@@ -146,3 +147,12 @@ module _ {C : Type 0} where
       subst (λ ns. Steps (usable slots key (given slots r (drop first ns))) o (usable slots key (given slots r (drop next ns)))) is_same
       (subst (λ k. Steps (usable slots key (given slots r (drop k numbers))) o (usable slots key (given slots r (drop next numbers)))) is_start
       (subst (λ q. Steps (usable slots key (given slots q (drop start numbers))) o (usable slots key (given slots q (drop next numbers)))) is_made steps))
+
+  -- each number of a procedure's list is that of a clause that was added
+  pub numbers_within : (slots : List (Slot C)) (r size : ℕ) (entries : List Kept) (place : ℕ) (e : Kept) → IsKept procedure_of slots r size entries → slice_get entries place ≡ Some e → e.current.front ≡ []
+      → (numbers : List ℕ) → numbers ≡ e.current.back → All (λ n. n < length slots) numbers
+  numbers_within slots r size entries place e kept at none numbers is =
+      subst (All (λ n. n < length slots)) (sym is) (λ k d h. list_there procedure_of slots _ place (all k d h))
+    where
+      all : All (λ n. list_at procedure_of slots n ≡ Some place) e.current.back
+      all = subst (λ fs. All (λ n. list_at procedure_of slots n ≡ Some place) (reverse fs ++ e.current.back)) none (owned_now procedure_of slots r size entries kept place e at)

@@ -1,6 +1,7 @@
 //! Views by key: of a procedure the clauses that a call may use. They are always one clause ahead, so that it is seen
 //! at once whether another clause is left.
-ghost use Rattle.std.specs.Prelude.{◌≡◌, ◌<◌, ◌≤◌, ◌-◌, ◌^◌, ℕ, true, List, Some, None, drop, is_some, IfSome};
+ghost use Rattle.std.specs.Prelude.{◌≡◌, ◌<◌, ◌≤◌, ◌-◌, ◌^◌, ℕ, true, List, Some, None, drop, is_some, length, IfSome};
+ghost use Rattle.std.specs.List.{All};
 ghost use Rattle.iso_clauses.specs.Clauses.{Clause};
 ghost use Rattle.iso_clauses.specs.Stepping.{Steps, first_number, behind};
 ghost use Rattle.iso_clauses.specs.Orders.{comes_before};
@@ -8,7 +9,7 @@ ghost use Rattle.iso_clauses.specs.Slots.{given, is_front, key_at};
 ghost use Rattle.iso_clauses.specs.Fits.{fits};
 ghost use Rattle.iso_db.specs.Keyed.{Offers, Leads, is_own_first, remaining_ahead, remaining_keyed, usable};
 
-use iso_clauses::{ClauseId, Entry, FirstKey, Slot, View, fits, is_front, is_given, next_from};
+use iso_clauses::{ClauseId, Entry, FirstKey, Slot, View, fits, is_front, is_there, next_from};
 
 /// A view whose next clause was taken ahead.
 #[derive(Clone, Copy, Debug)]
@@ -134,6 +135,7 @@ pub(crate) fn next_usable<C>(
     made: usize,
     start: usize,
 ) -> (Option<ClauseId>, usize)
+    requires { All (λ n. n < length slots.now.items) numbers.now }
     ensures steps { Steps (usable slots.now.items key (given slots.now.items made (drop start numbers.now))) result.0
         (usable slots.now.items key (given slots.now.items made (drop result.1 numbers.now))) }
     ensures later { start ≤ result.1 }
@@ -142,7 +144,8 @@ pub(crate) fn next_usable<C>(
     while next < numbers.len() {
         let id = numbers[next];
         next += 1;
-        if is_given(slots.as_slice(), id, made) && may_use(slots, key, id) {
+        let slot = &slots[id.number()];
+        if is_there(slot, made) && fits(key, slot.label.key) {
             return (Some(id), next);
         }
     }

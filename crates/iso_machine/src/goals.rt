@@ -278,12 +278,13 @@ pub(crate) fn call_goal<S: Cells + Drop>(
 {
     let mut place = GoalPlace::There(rest);
     let mut went = false;
+    let mut later = KeyedView::nothing();
     loop {
         let put = put_next(search, place)?;
         if search.lists.arguments.as_slice().is_empty() {
             return call_atom(search, put, went, asked);
         }
-        let mut later = KeyedView::nothing();
+        later.clear();
         let called = called_put(search, put.name, &mut later);
         let clause = match called {
             Called::User(clause) if search.steps != 0 => clause,

@@ -9,7 +9,7 @@ use Rattle.iso_db.specs.Databases.{clauses_at}
 use Rattle.iso_db.specs.Keyed.{usable}
 use Rattle.iso_db.specs.Presents.{contents}
 use Rattle.iso_db.specs.declared.keyed.Ahead.{Ahead}
-use Rattle.iso_db.proofs.BeginLemmas.{procedure_gives, short_taken, short_left, steps_same}
+use Rattle.iso_db.proofs.BeginLemmas.{numbers_within, procedure_gives, short_taken, short_left, steps_same}
 use Rattle.iso_db.proofs.KeyedLemmas.{none_behind, none_first, offers_stand, spent_gives}
 use Rattle.iso_db.proofs.PlaceLemmas.{shown_within}
 use Rattle.iso_db.proofs.db.Db.begin_short.Goals as goal
@@ -18,6 +18,26 @@ pub index-entry-requires : goal.index-entry-requires
 index-entry-requires g c =
     let db = c.args.self.now in
     omega (arith, shown_within db.slots.items db.removals db.places db.entries.items c.args.place db.kept.same c.requires.place, db.entries.ok.0)
+
+pub next_usable-first-requires : goal.next_usable-first-requires
+next_usable-first-requires g c =
+    let db = c.args.self.now in
+    let place = c.args.place in
+    let entry = c.index-entry.result.now in
+    let within = shown_within db.slots.items db.removals db.places db.entries.items place db.kept.same c.requires.place in
+    let at = slice_get-get_or db.entries.items place entry within in
+    numbers_within db.slots.items db.removals _ db.entries.items place (get_or db.entries.items place entry) db.kept at (c.requires.at_end _ at) _
+    (c.back-numbers.ensures ∙ ap (λ b. b.back) c.current.ensures ∙ ap (λ (k : Kept). k.current.back) c.index-entry.ensures)
+
+pub next_usable-second-requires : goal.next_usable-second-requires
+next_usable-second-requires g c =
+    let db = c.args.self.now in
+    let place = c.args.place in
+    let entry = c.index-entry.result.now in
+    let within = shown_within db.slots.items db.removals db.places db.entries.items place db.kept.same c.requires.place in
+    let at = slice_get-get_or db.entries.items place entry within in
+    numbers_within db.slots.items db.removals _ db.entries.items place (get_or db.entries.items place entry) db.kept at (c.requires.at_end _ at) _
+    (c.back-numbers.ensures ∙ ap (λ b. b.back) c.current.ensures ∙ ap (λ (k : Kept). k.current.back) c.index-entry.ensures)
 
 -- ---- no clause may be used
 
