@@ -128,28 +128,27 @@ pub(crate) fn take_arguments<S: Cells>(
 fn push_later<S: Cells + Drop>(
     search: &mut Search<S, Framed<S>>,
     later: &mut KeyedView,
-    name: Atom,
-    rest: Option<Rest>,
+    put: &Put,
 ) -> Result<bool, AllocError>
     requires room { (first : ℕ) (s : State) (goal : Tree) (c : databases.Clause) (cs : List databases.Clause)
         (behind : List Member) → CallsPut S.Store S.atom_word search.old first later.old
-        name rest s goal c cs behind
+        put.now.name put.now.behind s goal c cs behind
         → 0 < length cs → length search.old.choices.items < search.old.limit }
     requires calls { (first : ℕ) × (s : State) × (goal : Tree) × (c : databases.Clause) × (cs : List databases.Clause)
         × (behind : List Member) × CallsPut S.Store S.atom_word search.old first later.old
-        name rest s goal c cs behind }
+        put.now.name put.now.behind s goal c cs behind }
     ensures calls { (first : ℕ) (s : State) (goal : Tree) (c : databases.Clause) (cs : List databases.Clause)
         (behind : List Member) → CallsPut S.Store S.atom_word search.old first later.old
-        name rest s goal c cs behind
+        put.now.name put.now.behind s goal c cs behind
         → result ≡ Ok true → CallsPut S.Store S.atom_word search.new first later.old
-        name rest (with_others goal cs behind s) goal c cs behind }
+        put.now.name put.now.behind (with_others goal cs behind s) goal c cs behind }
     ensures kept { (first : ℕ) (s : State) (goal : Tree) (c : databases.Clause) (cs : List databases.Clause)
         (behind : List Member) → CallsPut S.Store S.atom_word search.old first later.old
-        name rest s goal c cs behind
+        put.now.name put.now.behind s goal c cs behind
         → OnErr result (Remains S.Store (framed S.atom_word) search.new s) }
     ensures room { result ≢ Ok false }
     ensures costs { result ≡ Ok true → kept_cost (framed S.atom_word) search.new
-        ≤ kept_cost (framed S.atom_word) search.old + left_cost most (cost_at search.old.lists rest) }
+        ≤ kept_cost (framed S.atom_word) search.old + left_cost most (cost_at search.old.lists put.now.behind) }
     ensures same { search.new ≡ record search.old {
       store = search.new.store;
       choices = search.new.choices;
@@ -164,13 +163,13 @@ fn push_later<S: Cells + Drop>(
     let Some(clause) = next_left(&search.db, later) else {
         unreachable!();
     };
-    let call = keep_arguments(&mut search.lists, name)?;
+    let call = keep_arguments(&mut search.lists, put.name)?;
     let left = Left::Clauses(Attempt {
         clause,
         later: *later,
         call,
     });
-    search.push_choice(left, rest)
+    search.push_choice(left, put.behind)
 }
 
 /// Whether a clause may have no frame: where it is said to be the last, and frames are few.
@@ -241,19 +240,19 @@ fn lacks_room<S: Cells + Drop>(
     search: &Search<S, Framed<S>>,
     clause: ClauseId,
     later: &KeyedView,
-    rest: Option<Rest>,
+    put: &Put,
     last: bool,
 ) -> bool
     requires { (s : State) × (goal : Tree) × (c : databases.Clause) × (cs : List databases.Clause)
         × (behind : List Member) × (name : ℕ) × CallsPut S.Store S.atom_word search.now clause later.now
-        name rest s goal c cs behind }
-    ensures beyond { result ≡ true → IsBeyond S.Store S.atom_word search.entry.now rest }
+        name put.now.behind s goal c cs behind }
+    ensures beyond { result ≡ true → IsBeyond S.Store S.atom_word search.entry.now put.now.behind }
     ensures room { (first : ℕ) (s : State) (goal : Tree) (c : databases.Clause) (cs : List databases.Clause)
         (behind : List Member) (name : ℕ) → CallsPut S.Store S.atom_word search.entry.now first later.now
-        name rest s goal c cs behind
+        name put.now.behind s goal c cs behind
         → result ≡ false → 0 < length cs → length search.entry.now.choices.items < search.entry.now.limit }
 {
-    if has_room(search, rest) {
+    if has_room(search, &put.behind) {
         return false;
     }
     if has_left(&search.db, later) {
@@ -302,11 +301,11 @@ pub(crate) fn call<S: Cells + Drop>(
         ≤ kept_cost (framed S.atom_word) search.old + left_cost most (cost_at search.old.lists put.now.behind)
         + body_cost most (cost_at search.old.lists put.now.behind) }
 {
-    if lacks_room(search, clause, later, put.behind, last) {
+    if lacks_room(search, clause, later, put, last) {
         return Ok(Gone::Full);
     }
     let mark = search.choices.len();
-    if !push_later(search, later, put.name, put.behind)? {
+    if !push_later(search, later, put)? {
         unreachable!();
     }
     enter_clause(search, clause, put, mark, last)

@@ -139,7 +139,7 @@ fn get_level<S: Cells + Drop>(
     requires stands { (s : State) × Represents S.Store (framed S.atom_word) search.old s }
     ensures { Moved S.Store (framed S.atom_word) (ComesBeyond search.old.limit) search.old result search.new }
 {
-    if !has_room(search, Some(rest)) {
+    if !has_room(search, &Some(rest)) {
         return Ok(search.full_frames());
     }
     let height = search.choices.len();
@@ -169,7 +169,7 @@ fn split<S: Cells + Drop>(
         → Moved S.Store (framed S.atom_word) (ComesBeyond old.limit) old result search.new }
 {
     let on = at(rest, rest.address - 1);
-    if !has_room(search, on) {
+    if !has_room(search, &on) {
         return Ok(search.full_frames());
     }
     let kept = search.lists.kept();

@@ -40,14 +40,14 @@ fn members_from<S: Cells>(lists: &Framed<S>, place: Option<Rest>, most: usize) -
 /// Whether the list from the place on, and the choices with the lists behind them, are for so many members and
 /// alternatives that three times as many are more than there may be frames and choices.
 #[inline(never)]
-fn is_beyond<S: Cells + Drop>(search: &Search<S, Framed<S>>, place: Option<Rest>) -> bool
+fn is_beyond<S: Cells + Drop>(search: &Search<S, Framed<S>>, place: &Option<Rest>) -> bool
     requires { (query : Tree) × (ks : List Alternative) × (ms : List Member)
         × HasChoices S.Store (framed S.atom_word) search.now query ks
-        × IsList S.atom_word (S.present search.now.store) search.now.lists (extent_of search.now.lists) place ms }
-    ensures { result ≡ true → IsBeyond S.Store S.atom_word search.entry.now place }
+        × IsList S.atom_word (S.present search.now.store) search.now.lists (extent_of search.now.lists) place.now ms }
+    ensures { result ≡ true → IsBeyond S.Store S.atom_word search.entry.now place.now }
 {
     let most = search.limit as usize / 3;
-    let mut count = members_from(&search.lists, place, most);
+    let mut count = members_from(&search.lists, *place, most);
     let mut height = search.choices.len();
     while height > 0 && count < most {
         height -= 1;
@@ -58,12 +58,12 @@ fn is_beyond<S: Cells + Drop>(search: &Search<S, Framed<S>>, place: Option<Rest>
 }
 
 /// Whether a choice and a frame may come, where the list from the place on is the engine's.
-pub(crate) fn has_room<S: Cells + Drop>(search: &Search<S, Framed<S>>, place: Option<Rest>) -> bool
+pub(crate) fn has_room<S: Cells + Drop>(search: &Search<S, Framed<S>>, place: &Option<Rest>) -> bool
     requires { (query : Tree) × (ks : List Alternative) × (ms : List Member)
         × HasChoices S.Store (framed S.atom_word) search.now query ks
-        × IsList S.atom_word (S.present search.now.store) search.now.lists (extent_of search.now.lists) place ms }
+        × IsList S.atom_word (S.present search.now.store) search.now.lists (extent_of search.now.lists) place.now ms }
     ensures room { result ≡ true → length search.entry.now.choices.items < search.entry.now.limit }
-    ensures full { result ≡ false → IsBeyond S.Store S.atom_word search.entry.now place }
+    ensures full { result ≡ false → IsBeyond S.Store S.atom_word search.entry.now place.now }
 {
     let limit = search.limit as usize;
     let choices = search.choices.len();
