@@ -1,5 +1,5 @@
 -- The step of a goal of a built-in whose arguments were put, and of one that fails as it is.
-use Rattle.std.proofs.Common.{◌≡◌, ◌≢◌, ◌≤◌, ◌<◌, ◌+◌, ◌-◌, ◌⊎◌, inl, inr, ℕ, suc, List, [], ◌∷◌, length, map, Option, Result, Ok, Err, refl, sym, ap, ap₂, ◌∙◌, subst, arith, true, Vec, Global}
+use Rattle.std.proofs.Common.{◌≡◌, ◌≢◌, ◌≤◌, ◌<◌, ◌+◌, ◌-◌, ◌⊎◌, inl, inr, ℕ, suc, List, [], ◌∷◌, length, map, Option, Result, Ok, Err, refl, sym, ap, ap₂, ◌∙◌, subst, arith, true}
 use Rattle.std.specs.List.{All}
 use Rattle.std.proofs.lemmas.List.{length-map}
 use Rattle.iso_atoms.specs.Texts.{text_at}
@@ -43,7 +43,7 @@ use Rattle.iso_frames.specs.declared.frames.Next.{Next}
 use Rattle.iso_frames.specs.Costs.{first_cost}
 use Rattle.iso_environments.specs.Goals.{goal_of}
 use Rattle.iso_search.specs.Called.{FailsAt, IsCalled}
-use Rattle.iso_search.specs.EngineStates.{IsAhead, IsBehind, Keeps, Moves, Refused, Represents, cost, kept_cost, leaves_of, phase_of, weight}
+use Rattle.iso_search.specs.EngineStates.{IsBehind, Keeps, Moves, Refused, Represents, cost, kept_cost, leaves_of, phase_of, weight}
 use Rattle.iso_search.specs.Faults.{Throws}
 use Rattle.iso_search.specs.Moved.{Moved}
 use Rattle.iso_search.specs.Nexts.{IsGoalFirst}
@@ -61,7 +61,6 @@ use Rattle.iso_search.proofs.RunCosts.{fails_at_once}
 use Rattle.iso_search.proofs.RunLemmas.{one_less}
 use Rattle.iso_search.proofs.Moves.Run.{fails_own, fails_unknown}
 use Rattle.iso_search.proofs.Moves.Value.{IsAtValue, TookStepAt, took_step, value_fails, value_holds, value_keeps, value_misses, value_raises, value_refused_reply, value_unbound}
-use Rattle.iso_machine.specs.declared.framed.Framed.{Framed}
 use Rattle.iso_machine.specs.BuiltIns.{HasRun}
 use Rattle.iso_machine.specs.Came.{CameTo}
 use Rattle.iso_machine.specs.Engines.{Engine, framed}

@@ -1,6 +1,6 @@
-use Rattle.std.proofs.Common.{rules, true, ◌≡◌, refl, arith}
+use Rattle.std.proofs.Common.{rules}
 use Rattle.iso_frames.specs.declared.frames.Next.TheVariants as next
-use Rattle.iso_machine.proofs.FrameLemmas.{list_within, frame_goes, frame_first, frame_cost, frame_pending}
+use Rattle.iso_machine.proofs.FrameLemmas.{frame_goes, frame_first, frame_cost, frame_pending}
 use Rattle.iso_machine.proofs.Moves.Arithmetic.{stops_first}
 use Rattle.iso_machine.proofs.arithmetic.go_behind.Goals as goal
 

@@ -1,9 +1,5 @@
-use Rattle.std.proofs.Common.{arith, map}
+use Rattle.std.proofs.Common.{arith}
 use Rattle.iso_atoms.specs.Texts.{text_at}
-use Rattle.iso_store_core.specs.Presents.{meaning}
-use Rattle.iso_machine.specs.BuiltIns.{HasRun}
-use Rattle.iso_machine.specs.GoalCalls.{IsCallPut}
-use Rattle.iso_machine.specs.Engines.{Engine}
 use Rattle.iso_machine.proofs.Moves.BuiltIn.{has_run, put_count}
 use Rattle.iso_machine.proofs.built_ins.run_library.Goals as goal
 

@@ -34,7 +34,7 @@ returns-then-not-has_left-clause-calls g c = λ first s call k ks gs t done.
     let e = c.args.search.now in
     let names = g.S.Store.names e.store in
     let are = left_behind names e.db t.clauses in
-    put_last g.S.Store g.S.Cells.atom_word e first c.args.later.now c.args.name c.args.rest s call k ks gs t
+    put_last g.S.Store g.S.Cells.atom_word e first c.args.later.now c.args.put.now.name c.args.put.now.behind s call k ks gs t
     (subst (λ b. MatchBool b (0 < length ks) (ks ≡ [])) c.if-not-has_left.true
     (c.has_left.ensures names t.clauses.behind ks t.clauses.gives are))
 
@@ -70,14 +70,14 @@ module _ (g : Over) (c : After-push_choice g) where
 
   calls_mid : (first : ℕ) (s : State) (goal : Tree) (k : databases.Clause) (ks : List databases.Clause)
       (gs : List Member)
-      → CallsPut g.S.Store g.S.Cells.atom_word e first c.args.later.now c.args.name c.args.rest s goal k ks gs
-      → Calls g.S.Store (framed g.S.Cells.atom_word) mid (attempt first) c.args.rest s goal k ks gs
+      → CallsPut g.S.Store g.S.Cells.atom_word e first c.args.later.now c.args.put.now.name c.args.put.now.behind s goal k ks gs
+      → Calls g.S.Store (framed g.S.Cells.atom_word) mid (attempt first) c.args.put.now.behind s goal k ks gs
   calls_mid first s goal k ks gs t =
       let on = c.keep_arguments.ensures in
       kept_calls g.S.Store g.S.Cells.atom_word e c.keep_arguments.new.lists
       (ap (λ (h : Framed _ _ _). h.nodes) on.same) (ap (λ (h : Framed _ _ _). h.frames) on.same)
-      on.words first c.args.later.now c.args.name
-      c.args.rest s goal k ks gs c.in_ok-call.call t
+      on.words first c.args.later.now c.args.put.now.name
+      c.args.put.now.behind s goal k ks gs c.in_ok-call.call t
       (c.in_ok-call.ensures.is_for (g.S.Store.present e.store) (t.put).name (t.put).known (t.put).named (t.put).hold)
 
 pub returns-in_err-call-clause-kept : goal.returns-in_err-call-clause-kept
@@ -86,10 +86,10 @@ returns-in_err-call-clause-kept g c = λ first s call k ks gs t.
     let e = c.args.search.now in
     let on = c.keep_arguments.ensures in
     behind_error c.from_residual.result
-    (remains_ahead g.S.Store l (record e { lists = c.keep_arguments.new.lists }) (record s { list = gs }) c.args.rest
+    (remains_ahead g.S.Store l (record e { lists = c.keep_arguments.new.lists }) (record s { list = gs }) c.args.put.now.behind
     (kept_ahead g.S.Store g.S.Cells.atom_word e c.keep_arguments.new.lists
     (ap (λ (h : Framed _ _ _). h.nodes) on.same) (ap (λ (h : Framed _ _ _). h.frames) on.same)
-    on.words c.args.rest (record s { list = gs })
+    on.words c.args.put.now.behind (record s { list = gs })
     t.ahead))
 
 pub returns-in_err-call-clause-stays : goal.returns-in_err-call-clause-stays
@@ -123,17 +123,17 @@ returns-clause-calls g c = λ first s call k ks gs t done.
     c.in-Some.is next in
     let with_choice : Engine g.row.S.Denot g.row.S-Word.Denot g.row.S-Mark.Denot =
     record m { store = new.store; choices = new.choices } in
-    let calls = calls_later g.S.Store l m (attempt g c first) c.args.rest s call k ks gs new.store new.choices
+    let calls = calls_later g.S.Store l m (attempt g c first) c.args.put.now.behind s call k ks gs new.store new.choices
     c.in-Some.clause c.next_left.new.later (as_much (extent_of m.lists)) (λ h within. within)
     (calls_mid g c first s call k ks gs t) there made.present made.rest.marks made.rest.names (made.gains done) in
     let arguments = ap (λ (x : Framed g.row.S.Denot g.row.S-Word.Denot g.row.S-Mark.Denot). x.arguments)
     c.keep_arguments.ensures.same in
     subst (λ (x : Engine g.row.S.Denot g.row.S-Word.Denot g.row.S-Mark.Denot).
-    CallsPut g.S.Store g.S.Cells.atom_word x first c.args.later.now c.args.name c.args.rest (with_others call ks gs s)
+    CallsPut g.S.Store g.S.Cells.atom_word x first c.args.later.now c.args.put.now.name c.args.put.now.behind (with_others call ks gs s)
     call k ks gs) (sym made.same)
-    (calls_put g.S.Store g.S.Cells.atom_word with_choice first c.args.later.now c.in_ok-call.call c.args.name c.args.rest
+    (calls_put g.S.Store g.S.Cells.atom_word with_choice first c.args.later.now c.in_ok-call.call c.args.put.now.name c.args.put.now.behind
     (with_others call ks gs s) call k ks gs calls
-    (put_on g.S.Cells.atom_word (g.S.Store.present e.store) (g.S.Store.present new.store) e.lists m.lists c.args.name call
+    (put_on g.S.Cells.atom_word (g.S.Store.present e.store) (g.S.Store.present new.store) e.lists m.lists c.args.put.now.name call
     made.present arguments t.put))
 
 pub returns-clause-kept : goal.returns-clause-kept
@@ -142,7 +142,7 @@ returns-clause-kept g c = λ first s call k ks gs t.
     c.push_choice.ensures.refused (record s { list = gs })
     (kept_ahead g.S.Store g.S.Cells.atom_word c.args.search.now c.keep_arguments.new.lists
     (ap (λ (h : Framed _ _ _). h.nodes) on.same) (ap (λ (h : Framed _ _ _). h.frames) on.same)
-    on.words c.args.rest
+    on.words c.args.put.now.behind
     (record s { list = gs }) t.ahead)
 
 pub returns-clause-same : goal.returns-clause-same
@@ -181,8 +181,8 @@ returns-clause-costs g c = λ done.
     let place = ap (λ (n : ℕ). left_cost most n)
     (kept_behind g.S.Store g.S.Cells.atom_word e c.keep_arguments.new.lists
     (ap (λ (h : Framed _ _ _). h.nodes) on.same) (ap (λ (h : Framed _ _ _). h.frames) on.same)
-    on.words c.args.rest) in
-    let later = view_cost (remaining_keyed c.next_left.new.later) (cost_at m.lists c.args.rest)
+    on.words c.args.put.now.behind) in
+    let later = view_cost (remaining_keyed c.next_left.new.later) (cost_at m.lists c.args.put.now.behind)
     (omega (arith, few, less)) in
     omega (arith, all, gained, later, costs, place)
 

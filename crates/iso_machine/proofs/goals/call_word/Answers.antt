@@ -1,4 +1,4 @@
-use Rattle.std.proofs.Common.{◌≡◌, ◌≢◌, Some, arith}
+use Rattle.std.proofs.Common.{◌≢◌, Some, arith}
 use Rattle.iso_machine.proofs.FirstGoals.{came_left}
 use Rattle.iso_machine.proofs.Moves.BuiltIn.{word_fails_now}
 use Rattle.iso_machine.proofs.goals.call_word.Goals as goal

@@ -11,4 +11,4 @@ returns-else-choices-limit-clause-full g c = λ done.
     let e = c.args.search.now in
     let full = c.if-choices-limit.false in
     let many = c.len-choices.ensures ∙ e.choices.ok.0 in
-    choices_beyond g.S.Store g.S.Cells.atom_word e c.args.place (omega (arith, full, many))
+    choices_beyond g.S.Store g.S.Cells.atom_word e c.args.place.now (omega (arith, full, many))

@@ -16,7 +16,7 @@ loop-height-init g c =
       few = omega (arith, few);
       stand = omega (arith, many);
       spanned =
-          spanned_none g.S.Store g.S.Cells.atom_word e c.args.place c.members_from-count.result c.len-height.result
+          spanned_none g.S.Store g.S.Cells.atom_word e c.args.place.now c.members_from-count.result c.len-height.result
           (omega (arith, many)) c.members_from-count.ensures.few;
     }
 
@@ -30,8 +30,8 @@ members_from-requires g c =
     let below = c.loop-height.height - 1 in
     let whole : c.loop-height.height ≡ suc below = omega (arith, some) in
     let there = item_there e.choices.items below c.index.result.now (omega (arith, some, stand)) c.index.ensures in
-    let spanned = subst (Spanned g.S.Store a e c.args.place c.loop-height.count) whole h.spanned in
-    newest_list g.S.Store a e c.args.place c.loop-height.count below c.index.result.now there spanned c.requires.0
+    let spanned = subst (Spanned g.S.Store a e c.args.place.now c.loop-height.count) whole h.spanned in
+    newest_list g.S.Store a e c.args.place.now c.loop-height.count below c.index.result.now there spanned c.requires.0
     c.requires.1 c.requires.2 c.requires.3 c.requires.4
 
 pub loop-height-preserved : goal.loop-height-preserved
@@ -46,17 +46,17 @@ loop-height-preserved g c =
     let below = c.loop-height.height - 1 in
     let whole : c.loop-height.height ≡ suc below = omega (arith, some) in
     let there = item_there e.choices.items below c.index.result.now (omega (arith, some, stand)) c.index.ensures in
-    let spanned = subst (Spanned g.S.Store a e c.args.place c.loop-height.count) whole h.spanned in
+    let spanned = subst (Spanned g.S.Store a e c.args.place.now c.loop-height.count) whole h.spanned in
     record {
       few = omega (arith, fewer, most);
       stand = omega (arith, stand);
       spanned =
-          spanned_more g.S.Store a e c.args.place c.loop-height.count below c.index.result.now there spanned
+          spanned_more g.S.Store a e c.args.place.now c.loop-height.count below c.index.result.now there spanned
           c.members_from.result c.members_from.ensures.few;
     }
 
 pub returns : goal.returns
 returns g c = λ done.
     let e = c.args.search.now in
-    spanned_beyond g.S.Store g.S.Cells.atom_word e c.args.place c.loop-height.count c.loop-height.height
+    spanned_beyond g.S.Store g.S.Cells.atom_word e c.args.place.now c.loop-height.count c.loop-height.height
     c.loop-height.invariant.spanned (leb-true (e.limit / 3) c.loop-height.count done)
