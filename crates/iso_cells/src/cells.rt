@@ -1,5 +1,5 @@
 //! The contract that a machine's instructions stand on.
-ghost use Rattle.std.specs.Prelude.{◌≡◌, ℕ, List, [], ◌∷◌, ◌++◌, ◌+◌, ◌<◌, ◌≤◌, IfOk, OnOk, length, true, false};
+ghost use Rattle.std.specs.Prelude.{◌≡◌, ◌≢◌, ℕ, ℤ, List, [], ◌∷◌, ◌++◌, ◌+◌, ◌<◌, ◌≤◌, IfOk, IfSome, IfNone, OnOk, length, true, false};
 ghost use Rattle.iso_atoms.specs.Texts.{EachOnce, text_at};
 ghost use Rattle.iso_model.specs.Terms.Integers.{is_short};
 ghost use Rattle.iso_model.specs.Terms.Trees.{Tree, Integer, Name, Apply, Variable, row};
@@ -53,6 +53,22 @@ pub trait Cells: Store {
         requires { Holds (Self.present self.old) word }
         ensures unified { IfOk result (IsUnification (Self.present self.old) (Self.present self.new) (meaning (Self.present self.old) word) (Integer value)) }
         ensures cells { Grows (Self.present self.old) (Self.present self.new) (wide_cells value) 0 }
+        ensures full { result ≡ Err StoreFault.Full → Self.full self.new }
+        ensures memory { result ≡ Err StoreFault.NoMemory → Self.takes_memory ≡ true }
+        ensures names { Self.names self.new ≡ Self.names self.old }
+        ensures marks { KeepsMarks (Self.stands self.old) (Self.stands self.new) };
+
+    /// The integer of at most 64 bits that the word stands for; none where it stands for anything else.
+    fn short(&self, word: Self::Word) -> Option<i64>
+        requires { Holds (Self.present self.now) word }
+        ensures value { IfSome result (λ value. meaning (Self.present self.now) word ≡ Integer value) }
+        ensures none { IfNone result ((value : ℤ) → is_short value ≡ true → meaning (Self.present self.now) word ≢ Integer value) };
+
+    /// As `meet_integer`, for an integer of at most 64 bits, which takes no cell.
+    fn meet_short(&mut self, word: Self::Word, value: i64) -> Result<bool, StoreFault>
+        requires { Holds (Self.present self.old) word }
+        ensures unified { IfOk result (IsUnification (Self.present self.old) (Self.present self.new) (meaning (Self.present self.old) word) (Integer value)) }
+        ensures cells { Grows (Self.present self.old) (Self.present self.new) 0 0 }
         ensures full { result ≡ Err StoreFault.Full → Self.full self.new }
         ensures memory { result ≡ Err StoreFault.NoMemory → Self.takes_memory ≡ true }
         ensures names { Self.names self.new ≡ Self.names self.old }

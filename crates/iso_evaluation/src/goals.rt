@@ -26,7 +26,6 @@ use iso_instructions::Step;
 use iso_lib::arithmetic::{name_of, raised};
 use iso_lib_core::{Fault, Reply, tested};
 use iso_model::Comparison;
-use iso_store_core::Store;
 use std::alloc::Global;
 
 /// Unifies what the operand stands for with the integer. The errors: the store is full, or memory was refused.
@@ -51,6 +50,32 @@ fn equate_operand<S: Cells>(
             Ok(tested(store.meet_integer(environment[*variable], value)?))
         }
         Operand::Integer(other) => Ok(tested(*other == value)),
+        Operand::Atom(_) | Operand::Inner(_) => Ok(tested(false)),
+    }
+}
+
+/// The same for an integer of at most 64 bits.
+#[inline(always)]
+fn equate_short<S: Cells>(
+    store: &mut S,
+    operand: &Operand,
+    environment: &[S::Word],
+    value: i64,
+) -> Result<Reply, Fault>
+    requires operand { IsThere (length (S.names store.old)) (length environment.now) operand.now }
+    requires environment { All (Holds (S.present store.old)) environment.now }
+    ensures replies { (next : ℕ) (s : Subst) → StandFor (S.present store.old) environment.now next s
+        → IsReply (S.present store.old) (S.present store.new)
+        (library.equate_integer (apply s (part_term next (λ r. End) (part_at (S.names store.old) 0 operand.now))) value) result }
+    ensures full { result ≡ Err Fault.Full → S.full store.new }
+    ensures cells { Takes S.Store store.old store.new 0 }
+    ensures rest { RetainsAll S.Store store.old store.new }
+{
+    match operand {
+        Operand::New(variable) | Operand::Old(variable) => {
+            Ok(tested(store.meet_short(environment[*variable], value)?))
+        }
+        Operand::Integer(other) => Ok(tested(*other == i128::from(value))),
         Operand::Atom(_) | Operand::Inner(_) => Ok(tested(false)),
     }
 }
@@ -113,7 +138,7 @@ pub fn evaluate<S: Cells>(
     ensures rest { RetainsAll S.Store store.old store.new }
 {
     match short_value_left(store, steps, environment) {
-        Some(value) => equate_operand(store, left, environment, i128::from(value)),
+        Some(value) => equate_short(store, left, environment, value),
         None => evaluate_any(alloc, store, evaluables, left, steps, environment, values),
     }
 }
@@ -121,7 +146,7 @@ pub fn evaluate<S: Cells>(
 /// A comparison (8.7.1) of the two values that the steps of any expressions leave. The list is for the values of
 /// expressions, and loses what it had. The errors: one is raised, or memory was refused.
 #[inline(never)]
-fn compare_any<S: Store>(
+fn compare_any<S: Cells>(
     alloc: Global,
     store: &S,
     evaluables: &Evaluables,
@@ -155,7 +180,7 @@ fn compare_any<S: Store>(
 /// A comparison (8.7.1) of the two values that the steps leave. The list is for the values of expressions, and loses
 /// what it had. The errors: one is raised, or memory was refused.
 #[inline(always)]
-pub fn compare<S: Store>(
+pub fn compare<S: Cells>(
     alloc: Global,
     store: &S,
     evaluables: &Evaluables,

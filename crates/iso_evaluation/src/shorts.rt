@@ -10,15 +10,15 @@ ghost use Rattle.iso_instructions.specs.Steps.{IsStep, IsStepThere, IsThere};
 ghost use Rattle.iso_evaluation.specs.Running.{StandFor, HoldsOfTwo, AreValueAndOperation, operand_value};
 
 use iso_arith::Binary;
+use iso_cells::Cells;
 use iso_code::Operand;
 use iso_instructions::Step;
 use iso_lib::arithmetic::holds;
 use iso_model::Comparison;
-use iso_store_core::{Shape, Store};
 
 /// The short integer that an operand stands for; none where it stands for anything else.
 #[inline(always)]
-fn short_operand<S: Store>(store: &S, operand: &Operand, environment: &[S::Word]) -> Option<i64>
+fn short_operand<S: Cells>(store: &S, operand: &Operand, environment: &[S::Word]) -> Option<i64>
     requires operand { IsThere (length (S.names store.now)) (length environment.now) operand.now }
     requires environment { All (Holds (S.present store.now)) environment.now }
     ensures { (next : ℕ) (s : Subst) → StandFor (S.present store.now) environment.now next s
@@ -26,10 +26,7 @@ fn short_operand<S: Store>(store: &S, operand: &Operand, environment: &[S::Word]
 {
     match operand {
         Operand::New(variable) | Operand::Old(variable) => {
-            match store.shape(environment[*variable]) {
-                Shape::Int(value) => i64::try_from(value).ok(),
-                _ => None,
-            }
+            store.short(environment[*variable])
         }
         Operand::Integer(value) => i64::try_from(*value).ok(),
         Operand::Atom(_) | Operand::Inner(_) => None,
@@ -81,7 +78,7 @@ fn operation_at(steps: &[Step], start: usize) -> Option<(&Operand, Binary)>
 
 /// The value of the expression whose steps begin here, and where they end; none where it isn't found here.
 #[inline(always)]
-fn short_expression<S: Store>(
+fn short_expression<S: Cells>(
     store: &S,
     steps: &[Step],
     environment: &[S::Word],
@@ -115,7 +112,7 @@ fn short_expression<S: Store>(
 
 /// The value that the steps leave where they leave one; none where it isn't found here.
 #[inline(always)]
-pub(crate) fn short_value_left<S: Store>(
+pub(crate) fn short_value_left<S: Cells>(
     store: &S,
     steps: &[Step],
     environment: &[S::Word],
@@ -137,7 +134,7 @@ pub(crate) fn short_value_left<S: Store>(
 /// Whether the comparison holds of the two values that the steps leave (8.7.1), where they leave two; none where it
 /// isn't found here.
 #[inline(always)]
-pub(crate) fn holds_of_shorts<S: Store>(
+pub(crate) fn holds_of_shorts<S: Cells>(
     store: &S,
     comparison: Comparison,
     steps: &[Step],

@@ -1,5 +1,5 @@
 -- What a machine's instructions on a heap come to.
-use Rattle.std.proofs.Common.{◌≡◌, ◌≢◌, ℕ, ℤ, ◌+◌, ◌-◌, ◌<◌, ◌≤◌, ◌&&◌, ◌==◌, List, [], ◌∷◌, ◌++◌, length, get_or, Bool, true, false, refl, ap, sym, ◌∙◌, subst, arith, length-append, IfOk, Result, Ok, Err, Option, Some, None, inl, inr, ◌⊎◌, nat_eq, of_z, to_z}
+use Rattle.std.proofs.Common.{◌≡◌, ◌≢◌, ℕ, ℤ, ◌+◌, ◌-◌, ◌<◌, ◌≤◌, ◌&&◌, ◌==◌, List, [], ◌∷◌, ◌++◌, length, get_or, Bool, true, false, refl, ap, sym, ◌∙◌, subst, arith, length-append, IfOk, Result, Ok, Err, Option, Some, None, inl, inr, ◌⊎◌, nat_eq, of_z, to_z, IfSome, IfNone}
 use mir.Val.{SFits}
 use mir.Syntax.{w128}
 use Rattle.std.specs.List.{slice_get}
@@ -12,6 +12,7 @@ use Rattle.std.proofs.lemmas.Slice.Eq.{bytes_eq-Decides}
 use Rattle.std.proofs.Math.Seq.{get_or-append_seam}
 use Rattle.iso_atoms.specs.Texts.{text_at, EachOnce, KeepsTexts}
 use Rattle.iso_cells.specs.Opening.{is_compound, IsCompound}
+use Rattle.iso_model.specs.Terms.Integers.{is_short}
 use Rattle.iso_model.specs.Terms.Trees.{Tree, Variable, Integer, Name, Apply, End, More, row, count}
 use Rattle.iso_model.specs.Terms.Variables.{occurs}
 use Rattle.iso_model.specs.Terms.Substitutions.{Subst, apply, compose, single}
@@ -26,7 +27,7 @@ use Rattle.iso_store.specs.declared.heap_cells.Cell.{Cell}
 use Rattle.iso_store.specs.declared.heap_cells.Cell.TheVariants.{Unbound, Bound, Argument, Functor, Wide, Entry}
 use Rattle.iso_store.specs.FlatCells.{is_unbound}
 use Rattle.iso_store.specs.HeapTerms.{made_term, heap_substitution}
-use Rattle.iso_store.specs.HeapStores.{is_argument, is_functor, is_variable_cell, is_word, IsFunctor, IsHeap, MayCome, present_of_heap}
+use Rattle.iso_store.specs.HeapStores.{next_word, is_argument, is_functor, is_variable_cell, is_word, IsFunctor, IsHeap, MayCome, present_of_heap}
 use Rattle.iso_store.specs.HeapLemmas.{place_term, place_term-unbound, place_term-bound, place_term-wide, place_term-functor, place_term-more, made_term-more, terms_before, before-length, before-at}
 use Rattle.iso_store.specs.HeapNumbers.{word_before}
 use Rattle.iso_store.specs.HeapInstructions.{AreLast, IsConstant}
@@ -35,7 +36,7 @@ use Rattle.iso_store.proofs.Bound.{binds-none}
 use Rattle.iso_store.proofs.Gathering.{keeps-then, numbers-then}
 use Rattle.iso_store.proofs.HeapNames.{terms-kept}
 use Rattle.iso_store.proofs.HeapPushes.{heap-more, substitution-more, word-more}
-use Rattle.iso_store.proofs.HeapReads.{seen, functor_cell, wide_cell, shows_wide, shows_compound, compound_count}
+use Rattle.iso_store.proofs.HeapReads.{seen, functor_cell, unbound_cell-is, wide_cell, shows_variable, shows_wide, shows_compound, compound_count}
 use Rattle.iso_store.proofs.HeapCompounds.{list-ext}
 use Rattle.iso_store.specs.HeapSorted.{sorted-meaning}
 use Rattle.iso_store.proofs.ArgumentLemmas.{row_of_term}
@@ -155,6 +156,18 @@ integers-meet p t x y fits fit is =
     false≢true (sym e ∙ eq-eqb (of_z w128 x) (of_z w128 y) (ap (of_z w128) number)))
 
 -- atoms that are compared
+-- an integer, where it has 64 bits
+pub narrow-value : (o : Option ℤ) (x : ℤ) (t : Tree) → IfSome o (λ v. v ≡ x) → t ≡ Integer x → IfSome o (λ v. t ≡ Integer v)
+narrow-value None x t h is = tt
+narrow-value (Some v) x t h is = is ∙ ap Integer (sym h)
+
+pub narrow-none : (o : Option ℤ) (x : ℤ) (t : Tree) → IfNone o (is_short x ≡ false) → t ≡ Integer x → IfNone o ((z : ℤ) → is_short z ≡ true → t ≢ Integer z)
+narrow-none (Some v) x t h is = tt
+narrow-none None x t h is = λ z narrow same.
+    let both : Integer x ≡ Integer z = sym is ∙ same in
+    let one : x ≡ z = cc in
+    false≢true (sym (ap is_short (sym one) ∙ h) ∙ narrow)
+
 pub atoms-meet : {W : Type 0} (p : Present W) (t : Tree) (all : List (List ℕ)) (f g : ℕ) → EachOnce all → f < length all → g < length all → t ≡ Name (text_at all f) → IsUnification p p t (Name (text_at all g)) (nat_eq f g)
 atoms-meet p t all f g once here there is =
     unifies-by p t (Name (text_at all g)) (nat_eq f g) (λ e. is ∙ ap (λ x. Name (text_at all x)) (eqb-true f g e))
@@ -337,6 +350,17 @@ module _ (names : List (List ℕ)) (cs : List Cell) (next : ℕ) (heap : IsHeap 
   never-integer w t z holds (inr h) same = λ s both.
       let shown : Name (text_at names h.0) ≡ Integer z = ap (λ v. apply s (seen names cs next heap v)) (sym h.1) ∙ ap (apply s) same ∙ both in
       absurd (cc)
+
+  -- what no integer stands for, no integer is
+  pub other-integer : (w : HeapWord) (z : ℤ) → is_word names cs w ≡ true → next_word cs w ≡ None → ((x : ℤ) → w ≢ Int x) → ((p : ℕ) → w ≢ Boxed p) → seen names cs next heap w ≢ Integer z
+  other-integer (Var a) z holds end int boxed is =
+      let found = unbound_cell-is (slice_get cs a) holds end in
+      let shown : Variable found.0 ≡ Integer z = sym (shows_variable names cs next heap a found.0 found.1) ∙ is in
+      absurd (cc)
+  other-integer (Structure p) z holds end int boxed is = (never-integer (Structure p) (seen names cs next heap (Structure p)) z holds (inl (p, refl)) refl) Variable (ap (apply Variable) is)
+  other-integer (Int x) z holds end int boxed is = int x refl
+  other-integer (Boxed p) z holds end int boxed is = boxed p refl
+  other-integer (Atom a) z holds end int boxed is = (never-integer (Atom a) (seen names cs next heap (Atom a)) z holds (inr (a, refl)) refl) Variable (ap (apply Variable) is)
 
   pub never-atom : (w : HeapWord) (t : Tree) (f : List ℕ) → is_word names cs w ≡ true → ((p : ℕ) × (w ≡ Structure p)) ⊎ (((z : ℤ) × (w ≡ Int z)) ⊎ ((p : ℕ) × (w ≡ Boxed p))) → seen names cs next heap w ≡ t → NeverEqual t (Name f)
   never-atom w t f holds (inl h) same = subst (λ u. NeverEqual u (Name f)) same (compound-never w h.0 (Name f) holds h.1 tt)

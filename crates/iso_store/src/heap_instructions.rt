@@ -1,6 +1,7 @@
 //! What a machine's instructions do on a heap: compounds are read and made cell by cell.
-ghost use Rattle.std.specs.Prelude.{◌≡◌, ◌≢◌, ℕ, List, [], ◌∷◌, ◌++◌, IfOk, OnOk, take, true, None};
+ghost use Rattle.std.specs.Prelude.{◌≡◌, ◌≢◌, ℕ, List, [], ◌∷◌, ◌++◌, IfOk, IfSome, IfNone, OnOk, take, true, false, None};
 ghost use Rattle.std.specs.List.{slice_get};
+ghost use Rattle.iso_model.specs.Terms.Integers.{is_short};
 ghost use Rattle.iso_model.specs.Terms.Trees.{Tree, Integer};
 ghost use Rattle.iso_store_core.specs.Copying.{wide_cells};
 ghost use Rattle.iso_store_core.specs.Presents.{meaning, KeepsWords, KeepsNumbers, Grows, IsUnification, KeepsMarks};
@@ -79,6 +80,17 @@ fn bind_integer(heap: &mut Heap, place: usize, value: i128) -> Result<bool, Stor
     bind_constant(heap, place, HeapWord::Boxed(wide))
 }
 
+/// The integer, where it has at most 64 bits.
+fn narrowed(value: i128) -> Option<i64>
+    ensures value { IfSome result (λ short. short ≡ value) }
+    ensures none { IfNone result (is_short value ≡ false) }
+{
+    if let Ok(short) = i64::try_from(value) {
+        return Some(short);
+    }
+    None
+}
+
 impl Cells for Heap {
     ghost pushed = { λ s ts. AreLast (take s.named s.atoms) s.area.low ts };
 
@@ -117,6 +129,24 @@ impl Cells for Heap {
             HeapWord::Var(place) => bind_integer(self, place, value),
             HeapWord::Int(other) => Ok(i128::from(other) == value),
             HeapWord::Boxed(place) => Ok(self.area.wide(place) == value),
+            HeapWord::Structure(_) | HeapWord::Atom(_) => Ok(false),
+        }
+    }
+
+    #[inline(always)]
+    fn short(&self, word: HeapWord) -> Option<i64> {
+        match self.walked(word) {
+            HeapWord::Int(value) => Some(value),
+            HeapWord::Boxed(place) => narrowed(self.area.wide(place)),
+            _ => None,
+        }
+    }
+
+    fn meet_short(&mut self, word: HeapWord, value: i64) -> Result<bool, StoreFault> {
+        match self.walked(word) {
+            HeapWord::Var(place) => bind_constant(self, place, HeapWord::Int(value)),
+            HeapWord::Int(other) => Ok(i128::from(other) == i128::from(value)),
+            HeapWord::Boxed(place) => Ok(self.area.wide(place) == i128::from(value)),
             HeapWord::Structure(_) | HeapWord::Atom(_) => Ok(false),
         }
     }
