@@ -1,6 +1,6 @@
-use Rattle.std.proofs.Common.{◌≡◌, ap, sym, subst, rules}
+use Rattle.std.proofs.Common.{ap, sym, subst, rules}
 use Rattle.std.specs.Prelude.{FitsSigned, codes}
-use Rattle.std.specs.Int.{w128}
+use Rattle.std.specs.Int.{w64}
 use Rattle.std.proofs.lemmas.Int.{to_z-of_z}
 use Rattle.iso_model.specs.Terms.Trees.{End}
 use Rattle.iso_model.specs.Terms.Substitutions.{apply}
@@ -15,11 +15,10 @@ use Rattle.iso_evaluation.proofs.goals.evaluate.Goals as goal
 pub returns-in-Some-clause-replies : goal.returns-in-Some-clause-replies
 returns-in-Some-clause-replies g c next s ks stand zip =
     let p = g.S.Store.present c.args.store.now in
-    let q = g.S.Store.present c.equate_operand.new.store in
+    let q = g.S.Store.present c.equate_short.new.store in
     let names = g.S.Store.names c.args.store.now in
     let t = apply s (part_term next (λ r. End) (part_at names 0 c.args.left.now)) in
     let goes = ap (λ o. with_one o (key (codes "is") 2) (equate_integer t)) (c.in-Some.ensures next s ks stand zip) in
-    let same : c.from.result ≡ c.in-Some.value = search rules in
-    let fits : FitsSigned w128 c.from.result = search rules in
-    let replies = rw (to_z-of_z w128 c.from.result fits, same) at (c.equate_operand.ensures.replies next s stand) in
-    subst (λ a. IsReply p q a c.equate_operand.result) (sym goes) replies
+    let fits : FitsSigned w64 c.in-Some.value = search rules in
+    let replies = rw (to_z-of_z w64 c.in-Some.value fits) at (c.equate_short.ensures.replies next s stand) in
+    subst (λ a. IsReply p q a c.equate_short.result) (sym goes) replies
