@@ -33,6 +33,7 @@ pub mod ListingLemmas
 pub mod RoundBound
 pub mod HeapReads
 pub mod HeldWords
+pub mod EndLemmas
 pub mod HeapApart
 pub mod HeapPushes
 pub mod HeapAreas

@@ -266,6 +266,23 @@ impl Primitives for Heap {
         }
     }
 
+    #[inline(always)]
+    fn end(&self, word: HeapWord) -> HeapWord {
+        self.walked(word)
+    }
+
+    #[inline(always)]
+    fn made_arg(&self, compound: HeapWord, count: usize, index: usize) -> HeapWord {
+        let HeapWord::Structure(place) = compound else {
+            unreachable!()
+        };
+        let place = place - (count - index);
+        match self.area.held(place) {
+            Some(word) => word,
+            None => HeapWord::Var(place),
+        }
+    }
+
     fn place(&self, word: HeapWord) -> Option<usize> {
         match self.walked(word) {
             HeapWord::Var(place) | HeapWord::Structure(place) | HeapWord::Boxed(place) => Some(

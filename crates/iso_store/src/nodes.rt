@@ -174,6 +174,14 @@ impl Primitives for Nodes {
         arguments[index]
     }
 
+    fn end(&self, word: usize) -> usize {
+        self.walked(word)
+    }
+
+    fn made_arg(&self, compound: usize, count: usize, index: usize) -> usize {
+        Primitives::arg(self, compound, index)
+    }
+
     fn place(&self, word: usize) -> Option<usize> {
         Some(self.walked(word))
     }

@@ -57,6 +57,21 @@ pub(crate) trait Primitives {
         ensures holds { Holds (present self.now) result }
         ensures value { meaning (present self.now) result ≡ argument index (meaning (present self.now) word) };
 
+    /// The end of the bindings that the word begins, which was made with the arguments that the word has.
+    fn end(&self, word: Self::Word) -> Self::Word
+        requires { Holds (present self.now) word }
+        ensures holds { Holds (present self.now) result }
+        ensures same { meaning (present self.now) result ≡ meaning (present self.now) word }
+        ensures made { arity ((present self.now).term result) ≡ arity (meaning (present self.now) word) };
+
+    /// The argument at this place of a word that was made as a compound of so many arguments.
+    fn made_arg(&self, compound: Self::Word, count: usize, index: usize) -> Self::Word
+        requires word { Holds (present self.now) compound }
+        requires arity { arity ((present self.now).term compound) ≡ count }
+        requires index { index < count }
+        ensures holds { Holds (present self.now) result }
+        ensures value { meaning (present self.now) result ≡ argument index (meaning (present self.now) compound) };
+
     /// The place of what the word stands for: words of one place stand for one term. Variables and compounds have
     /// places.
     fn place(&self, word: Self::Word) -> Option<usize>

@@ -227,10 +227,12 @@ fn unify_arguments<S: Primitives>(
     ensures names { S.names store.new ≡ S.names store.old }
     ensures marks { KeepsMarks (S.stands store.old) (S.stands store.new) }
 {
+    let one_end = store.end(one);
+    let other_end = store.end(other);
     let mut index = index;
     'meeting: loop {
-        let first = store.arg(one, index);
-        let second = store.arg(other, index);
+        let first = store.made_arg(one_end, count, index);
+        let second = store.made_arg(other_end, count, index);
         index += 1;
         match meet_pair(store, first, second, notes)? {
             Met::Equal if index == count => return Ok(true),
