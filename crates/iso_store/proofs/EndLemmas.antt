@@ -1,19 +1,20 @@
 -- Words at the end of their bindings: what stands for a compound was made as one.
-use Rattle.std.proofs.Common.{◌≡◌, ◌≢◌, ℕ, ◌+◌, ◌<◌, List, length, map, true, false, refl, ap, sym, ◌∙◌, arith, Option, Some, None, Vec, Global, inl, inr}
+use Rattle.std.proofs.Common.{◌≡◌, ℕ, ◌<◌, List, length, map, true, false, refl, ap, sym, ◌∙◌, arith, Option, Some, None, Vec, Global, inl, inr}
 use Rattle.std.specs.List.{slice_get}
 use Rattle.std.proofs.lemmas.List.{length-map}
 use Rattle.std.proofs.lemmas.Option.{slice_get_cases, slice_get_within}
-use Rattle.iso_model.specs.Terms.Trees.{row}
 use Rattle.iso_model.specs.Terms.Substitutions.{Subst, apply}
 use Rattle.iso_store.specs.declared.heap_cells.HeapWord.{HeapWord}
 use Rattle.iso_store.specs.declared.heap_cells.HeapWord.TheVariants.{Var, Structure, Int, Boxed, Atom}
 use Rattle.iso_store.specs.declared.heap_cells.Cell.{Cell}
+use Rattle.iso_store.specs.declared.heap_cells.Cell.TheVariants.{Unbound, Bound, Argument, Functor, Wide, Entry}
+use Rattle.iso_store.specs.FlatCells.{held_word}
 use Rattle.iso_store.specs.declared.nodes.Node.{Node}
 use Rattle.iso_store.specs.declared.nodes.Node.TheVariants as node
 use Rattle.iso_store_core.specs.Arguments.{arity}
 use Rattle.iso_store_core.specs.Presents.{Present, Holds, meaning, Binds}
 use Rattle.iso_store.specs.HeapTerms.{made_term, heap_substitution}
-use Rattle.iso_store.specs.HeapStores.{is_word, IsHeap, next_word}
+use Rattle.iso_store.specs.HeapStores.{bound_word, is_word, IsHeap, next_word}
 use Rattle.iso_store.specs.HeapLemmas.{place_term-unbound, place_term-wide, place_term-functor, terms_before, before-length}
 use Rattle.iso_store.specs.NodeTerms.{term_at, substitution_of}
 use Rattle.iso_store.specs.NodeStores.{is_bound, IsStore}
@@ -43,6 +44,15 @@ end-kept {W} {p} {q} {s} word end n bound holds is = record {
 }
 
 -- of cells
+pub unheld-end : (o : Option Cell) → held_word o ≡ None → bound_word o ≡ None
+unheld-end None h = refl
+unheld-end (Some (Unbound n)) h = refl
+unheld-end (Some (Bound n w)) h = absurd (cc)
+unheld-end (Some (Argument w)) h = absurd (cc)
+unheld-end (Some (Functor f n)) h = refl
+unheld-end (Some (Wide z)) h = refl
+unheld-end (Some (Entry p)) h = refl
+
 pub heap-end-made : (names : List (List ℕ)) (cs : List Cell) (next : ℕ) → IsHeap names cs next → (w : HeapWord) → is_word names cs w ≡ true → next_word cs w ≡ None
     → arity (made_term names cs w) ≡ arity (apply (heap_substitution names cs) (made_term names cs w))
 heap-end-made names cs next heap (Var a) holds end =

@@ -4,7 +4,7 @@ use Rattle.iso_model.specs.Terms.Trees.{Tree, Apply, row, count}
 use Rattle.iso_model.specs.Terms.Sorts.{is_term}
 use Rattle.iso_model.specs.Terms.Variables.{occurs}
 use Rattle.iso_store.specs.declared.occurs.Task.{Task}
-use Rattle.iso_store.specs.declared.occurs.Task.TheVariants.{Search}
+use Rattle.iso_store.specs.declared.occurs.Task.TheVariants.{Search, Leave}
 use Rattle.iso_store_core.specs.Presents.{Present, Holds, meaning}
 use Rattle.iso_store_core.specs.Arguments.{arity, argument, arguments_from}
 use Rattle.iso_store.specs.Searching.{IsThere, found}
@@ -12,6 +12,11 @@ use Rattle.iso_store.proofs.ArgumentLemmas.{row_of_term, arguments-whole}
 use Rattle.iso_store.proofs.SearchLemmas.{found-append, found-true, found-argument, occurs-last}
 
 module _ {W : Type 0} (p : Present W) where
+  -- what the task speaks of is there, and was made as a compound
+  abbrev pub IsMade : Task W → Type 0
+  IsMade (Search word index count) = IsThere p (Search word index count) × (arity (p.term word) ≡ count)
+  IsMade (Leave place) = Unit {0}
+
   -- a compound with all its arguments
   module _ (word : W) (n : ℕ) (f : List ℕ) (ts : Tree) (is : meaning p word ≡ Apply f ts) (many : count ts ≡ n) (sort : is_term (meaning p word) ≡ true) where
     pub whole-there : Holds p word → IsThere p (Search word 0 n)

@@ -66,3 +66,4 @@ pub mod UnifiedThese
 pub mod HeadMet
 mod Renewed
 pub mod HeapInstructionLemmas
+pub mod MeetingLemmas

@@ -69,11 +69,11 @@ pub(crate) fn in_few<S: Primitives>(
         Look::Compound(all) => all,
     };
     tasks.clear();
-    let mut compound = word;
+    let mut compound = store.end(word);
     let mut index = 0;
     let mut count = all;
     for _look in 0..FEW {
-        let argument = store.arg(compound, index);
+        let argument = store.end_of_arg(compound, count, index);
         index = behind(index, count);
         match look_at(store, number, argument) {
             Look::There => return Ok(Some(true)),

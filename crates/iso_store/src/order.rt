@@ -139,8 +139,8 @@ fn compare_arguments<S: Primitives>(
     let other_end = store.end(other);
     let mut index = index;
     'comparing: loop {
-        let first = store.made_arg(one_end, count, index);
-        let second = store.made_arg(other_end, count, index);
+        let first = store.end_of_arg(one_end, count, index);
+        let second = store.end_of_arg(other_end, count, index);
         index += 1;
         match compare_heads(store, first, second) {
             Comparison::Decided(order) if order != Ordering::Equal => return Ok(order),

@@ -28,39 +28,39 @@ pub returns-in-Equal-clause-stands : goal.returns-in-Equal-clause-stands
 returns-in-Equal-clause-stands g c =
     let p = g.S.Primitives.present c.meeting.store in
     let loop = c.meeting.invariant in
-    let first = c.made_arg-first.ensures.value ∙ ap (argument c.meeting.index) loop.one.same in
-    let second = c.made_arg-second.ensures.value ∙ ap (argument c.meeting.index) loop.other.same in
+    let first = c.end_of_arg-first.ensures.value ∙ ap (argument c.meeting.index) loop.one.same in
+    let second = c.end_of_arg-second.ensures.value ∙ ap (argument c.meeting.index) loop.other.same in
     let xs = c.meeting.tasks.items in
-    let met = rw c.in-Equal.is at c.in_ok-meet_pair.ensures.met in
-    let joins = c.in_ok-meet_pair.ensures.joined loop.stands.joins (equal-met _ c.in-Equal.is) in
+    let met = rw c.in-Equal.is at c.in_ok-meet_ends.ensures.met in
+    let joins = c.in_ok-meet_ends.ensures.joined loop.stands.joins (equal-met _ c.in-Equal.is) in
     λ t. stands-equal p xs xs c.args.one c.args.other c.meeting.index c.args.count loop.pair.2 loop.pair.3 loop.pair.4 _ _ first second (inl (c.if-index-count.true, refl)) _ _ loop.stands met _ _ joins
 
 pub returns-in-Equal-clause-steps : goal.returns-in-Equal-clause-steps
 returns-in-Equal-clause-steps g c =
     let p = g.S.Primitives.present c.meeting.store in
     let loop = c.meeting.invariant in
-    let first = c.made_arg-first.ensures.value ∙ ap (argument c.meeting.index) loop.one.same in
-    let second = c.made_arg-second.ensures.value ∙ ap (argument c.meeting.index) loop.other.same in
+    let first = c.end_of_arg-first.ensures.value ∙ ap (argument c.meeting.index) loop.one.same in
+    let second = c.end_of_arg-second.ensures.value ∙ ap (argument c.meeting.index) loop.other.same in
     let xs = c.meeting.tasks.items in
-    let met = rw c.in-Equal.is at c.in_ok-meet_pair.ensures.met in
+    let met = rw c.in-Equal.is at c.in_ok-meet_ends.ensures.met in
     leads-steps loop.leads
     (steps-equal p xs xs c.args.one c.args.other c.meeting.index c.args.count loop.pair.2 loop.pair.3 loop.pair.4 _ _ first second (inl (c.if-index-count.true, refl)) _ _ loop.stands met)
 
 pub meeting-preserved : goal.meeting-preserved
 meeting-preserved g c =
     let p = g.S.Primitives.present c.meeting.store in
-    let q = g.S.Primitives.present c.meet_pair.new.store in
+    let q = g.S.Primitives.present c.meet_ends.new.store in
     let loop = c.meeting.invariant in
-    let first = c.made_arg-first.ensures.value ∙ ap (argument c.meeting.index) loop.one.same in
-    let second = c.made_arg-second.ensures.value ∙ ap (argument c.meeting.index) loop.other.same in
+    let first = c.end_of_arg-first.ensures.value ∙ ap (argument c.meeting.index) loop.one.same in
+    let second = c.end_of_arg-second.ensures.value ∙ ap (argument c.meeting.index) loop.other.same in
     let xs = c.meeting.tasks.items in
     let later = Arguments c.args.one c.args.other (c.meeting.index + 1) c.args.count in
-    let met = rw c.in-Equal.is at c.in_ok-meet_pair.ensures.met in
-    let joins = c.in_ok-meet_pair.ensures.joined loop.stands.joins (equal-met _ c.in-Equal.is) in
+    let met = rw c.in-Equal.is at c.in_ok-meet_ends.ensures.met in
+    let joins = c.in_ok-meet_ends.ensures.joined loop.stands.joins (equal-met _ c.in-Equal.is) in
     let behind : Behind c.args.one c.args.other (c.meeting.index + 1) c.args.count xs (xs ++ later ∷ []) = inr (omega (arith, loop.pair.2, c.if-index-count.false), refl) in
     let stands =
-    stands-equal p xs (xs ++ later ∷ []) c.args.one c.args.other c.meeting.index c.args.count loop.pair.2 loop.pair.3 loop.pair.4 (meaning p c.made_arg-first.result) (meaning p c.made_arg-second.result) first second behind _ c.meeting.notes.joined loop.stands met
-    (g.S.Primitives.at_place c.meet_pair.new.store) c.meet_pair.new.notes.joined joins in
+    stands-equal p xs (xs ++ later ∷ []) c.args.one c.args.other c.meeting.index c.args.count loop.pair.2 loop.pair.3 loop.pair.4 (meaning p c.end_of_arg-first.result) (meaning p c.end_of_arg-second.result) first second behind _ c.meeting.notes.joined loop.stands met
+    (g.S.Primitives.at_place c.meet_ends.new.store) c.meet_ends.new.notes.joined joins in
     record {
       one = end-kept _ _ _ met.2 loop.pair.0 loop.one;
       other = end-kept _ _ _ met.2 loop.pair.1 loop.other;
@@ -70,9 +70,9 @@ meeting-preserved g c =
           steps-lead
           (leads-steps loop.leads
           (steps-equal p xs (xs ++ later ∷ []) c.args.one c.args.other c.meeting.index c.args.count loop.pair.2 loop.pair.3 loop.pair.4 _ _ first second behind _ _ loop.stands met));
-      cells = grows-then loop.cells c.in_ok-meet_pair.ensures.cells;
-      names = c.in_ok-meet_pair.ensures.names ∙ loop.names;
-      marks = λ m k h. c.in_ok-meet_pair.ensures.marks m k (loop.marks m k h);
+      cells = grows-then loop.cells c.in_ok-meet_ends.ensures.cells;
+      names = c.in_ok-meet_ends.ensures.names ∙ loop.names;
+      marks = λ m k h. c.in_ok-meet_ends.ensures.marks m k (loop.marks m k h);
     }
 
 -- ---- nothing makes it equal
@@ -80,21 +80,21 @@ pub returns-in-Never-clause-steps : goal.returns-in-Never-clause-steps
 returns-in-Never-clause-steps g c =
     let p = g.S.Primitives.present c.meeting.store in
     let loop = c.meeting.invariant in
-    let first = c.made_arg-first.ensures.value ∙ ap (argument c.meeting.index) loop.one.same in
-    let second = c.made_arg-second.ensures.value ∙ ap (argument c.meeting.index) loop.other.same in
-    let never = rw c.in-Never.is at c.in_ok-meet_pair.ensures.met in
+    let first = c.end_of_arg-first.ensures.value ∙ ap (argument c.meeting.index) loop.one.same in
+    let second = c.end_of_arg-second.ensures.value ∙ ap (argument c.meeting.index) loop.other.same in
+    let never = rw c.in-Never.is at c.in_ok-meet_ends.ensures.met in
     leads-never loop.leads
-    (never-popped p c.meeting.tasks.items c.args.one c.args.other c.meeting.index c.args.count loop.pair.2 loop.pair.3 loop.pair.4 (meaning p c.made_arg-first.result) (meaning p c.made_arg-second.result) first second never)
+    (never-popped p c.meeting.tasks.items c.args.one c.args.other c.meeting.index c.args.count loop.pair.2 loop.pair.3 loop.pair.4 (meaning p c.end_of_arg-first.result) (meaning p c.end_of_arg-second.result) first second never)
 
 -- ---- both are compounds
 pub leave_arguments-requires-clause-stands : goal.leave_arguments-requires-clause-stands
 leave_arguments-requires-clause-stands g c =
     let p = g.S.Primitives.present c.meeting.store in
     let loop = c.meeting.invariant in
-    let first = c.made_arg-first.ensures.value ∙ ap (argument c.meeting.index) loop.one.same in
-    let second = c.made_arg-second.ensures.value ∙ ap (argument c.meeting.index) loop.other.same in
-    let met = rw c.in-Compounds.is at c.in_ok-meet_pair.ensures.met in
-    let joins = rw met.0 at (c.in_ok-meet_pair.ensures.joined loop.stands.joins (compounds-met c.in-Compounds.many _ c.in-Compounds.is)) in
+    let first = c.end_of_arg-first.ensures.value ∙ ap (argument c.meeting.index) loop.one.same in
+    let second = c.end_of_arg-second.ensures.value ∙ ap (argument c.meeting.index) loop.other.same in
+    let met = rw c.in-Compounds.is at c.in_ok-meet_ends.ensures.met in
+    let joins = rw met.0 at (c.in_ok-meet_ends.ensures.joined loop.stands.joins (compounds-met c.in-Compounds.many _ c.in-Compounds.is)) in
     let behind : Behind c.args.one c.args.other (c.meeting.index + 1) c.args.count c.meeting.tasks.items c.if-index-count-2.tasks.items =
     elim c.if-index-count-2.branch [
       | then-index-count-2+in_ok-push-in-Compounds w ↦ inr (w.if-index-count-2.true, rw w.tasks-is w.in_ok-push-in-Compounds.ensures.items)
@@ -108,9 +108,9 @@ pub returns-in-Compounds-clause-steps : goal.returns-in-Compounds-clause-steps
 returns-in-Compounds-clause-steps g c =
     let p = g.S.Primitives.present c.meeting.store in
     let loop = c.meeting.invariant in
-    let first = c.made_arg-first.ensures.value ∙ ap (argument c.meeting.index) loop.one.same in
-    let second = c.made_arg-second.ensures.value ∙ ap (argument c.meeting.index) loop.other.same in
-    let met = rw c.in-Compounds.is at c.in_ok-meet_pair.ensures.met in
+    let first = c.end_of_arg-first.ensures.value ∙ ap (argument c.meeting.index) loop.one.same in
+    let second = c.end_of_arg-second.ensures.value ∙ ap (argument c.meeting.index) loop.other.same in
+    let met = rw c.in-Compounds.is at c.in_ok-meet_ends.ensures.met in
     let behind : Behind c.args.one c.args.other (c.meeting.index + 1) c.args.count c.meeting.tasks.items c.if-index-count-2.tasks.items =
     elim c.if-index-count-2.branch [
       | then-index-count-2+in_ok-push-in-Compounds w ↦ inr (w.if-index-count-2.true, rw w.tasks-is w.in_ok-push-in-Compounds.ensures.items)
