@@ -297,10 +297,10 @@ impl Primitives for Heap {
         let HeapWord::Structure(place) = compound else {
             unreachable!()
         };
-        let place = place - (count - index);
-        match self.area.held(place) {
+        let at = place - (count - index);
+        match self.area.held(at) {
             Some(word) => self.walked(word),
-            None => HeapWord::Var(place),
+            None => HeapWord::Var(at),
         }
     }
 

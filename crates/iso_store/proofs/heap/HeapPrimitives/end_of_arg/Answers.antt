@@ -19,8 +19,8 @@ unreachable-requires c =
     let below = c.requires.index in
     omega arith
 
-pub overflow_sub-place-2 : goal.overflow_sub-place-2
-overflow_sub-place-2 c =
+pub overflow_sub-at-2 : goal.overflow_sub-at-2
+overflow_sub-at-2 c =
     let now = c.args.self.now in
     let names = take now.named now.atoms in
     let found = made-functor names now.area.low now.next now.is_heap c.in-Structure.place c.args.count (ap (is_word names now.area.low) (sym c.in-Structure.is) ∙ c.requires.word) (ap (λ w. arity (made_term names now.area.low w)) (sym c.in-Structure.is) ∙ c.requires.arity) in
