@@ -266,7 +266,7 @@ fn do_task<S: Primitives>(
 
 /// Whether two compounds of one name with so many arguments can be made equal, which then is bound, with these notes,
 /// and this list for what is left to do.
-#[inline(never)]
+#[inline(always)]
 fn unify_compounds<S: Primitives>(
     store: &mut S,
     one: S::Word,
