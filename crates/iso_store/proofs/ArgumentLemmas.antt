@@ -29,7 +29,7 @@ listed-none (Name a) none = refl
 listed-none (Apply f ts) none = refl
 listed-none End none = refl
 
-listed-end : (i : ℕ) (ts : Tree) → count ts ≡ i → listed (members_from i ts) ≡ []
+pub listed-end : (i : ℕ) (ts : Tree) → count ts ≡ i → listed (members_from i ts) ≡ []
 listed-end zero ts none = listed-none ts none
 listed-end (suc i) (More t ts) none = listed-end i ts (omega arith)
 listed-end (suc i) (Variable n) none = refl

@@ -33,6 +33,7 @@ pub mod ListingLemmas
 pub mod RoundBound
 pub mod HeapReads
 pub mod HeldWords
+pub mod EndLemmas
 pub mod HeapApart
 pub mod HeapPushes
 pub mod HeapAreas
@@ -65,3 +66,4 @@ pub mod UnifiedThese
 pub mod HeadMet
 mod Renewed
 pub mod HeapInstructionLemmas
+pub mod MeetingLemmas

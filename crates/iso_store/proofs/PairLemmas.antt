@@ -4,7 +4,7 @@ use Rattle.std.proofs.lemmas.Bool.{cases_eq}
 use Rattle.iso_model.specs.Terms.Trees.{Tree, Variable, row}
 use Rattle.iso_model.specs.Terms.Substitutions.{Subst, compose}
 use Rattle.iso_model.specs.Terms.Unifiers.{Unifier, NeverEqual}
-use Rattle.iso_model.specs.Terms.Unification.Composed.{unifier_same}
+use Rattle.iso_model.specs.Terms.Unification.Composed.{unifier_same, unifier_sym}
 use Rattle.iso_store.specs.declared.notes.Notes.{Notes}
 use Rattle.iso_store.specs.declared.unify.Met.{Met}
 use Rattle.iso_store.specs.declared.unify.Met.TheVariants.{Equal, Never, Compounds}
@@ -88,6 +88,11 @@ bound-met false m is some = absurd (some is)
 -- they were equal before
 pub met-same : {W : Type 0} (p : Present W) (a b : Tree) → a ≡ b → IsMet p p a b Equal
 met-same p a b equal = (Variable, subst (λ t. Unifier a t Variable) equal (unifier_same a), binds-none p)
+
+-- they met the other way round
+pub swapped-met : {W : Type 0} (p q : Present W) (a b : Tree) (answer : Bool) (m : Met) → m ≡ (if answer then Equal else Never) → IsUnification p q b a answer → IsMet p q a b m
+swapped-met p q a b true m is h = rw is (h.0, unifier_sym h.1, h.2)
+swapped-met p q a b false m is h = rw is (λ s e. h s (sym e))
 
 -- they may be equal yet
 pub equal-met : (m : Met) → m ≡ Equal → m ≢ Never

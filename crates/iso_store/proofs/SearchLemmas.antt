@@ -15,7 +15,7 @@ use Rattle.iso_store.specs.Notes.{noted}
 use Rattle.iso_store.specs.Searching.{IsClear, load, found, AreSound}
 use Rattle.iso_store.proofs.ArgumentLemmas.{arguments-more, arguments-last, arguments-whole}
 
-or_false : (b : Bool) → b || false ≡ b
+pub or_false : (b : Bool) → b || false ≡ b
 or_false true = refl
 or_false false = refl
 

@@ -1,16 +1,17 @@
 //! Whether a variable occurs in a term of few arguments, without notes. Most terms that a variable is bound to are
 //! small, and for these it takes longer to note each compound than to look at one that is shared again.
-ghost use Rattle.std.specs.Prelude.{◌≡◌, ◌+◌, ◌<◌, IfOk, IfSome};
+ghost use Rattle.std.specs.Prelude.{◌≡◌, ◌≤◌, IfOk, IfSome};
 ghost use Rattle.iso_model.specs.Terms.Variables.{occurs};
 ghost use Rattle.iso_store_core.specs.Presents.{Holds, meaning};
-ghost use Rattle.iso_store.specs.Looks.{IsLook};
+ghost use Rattle.iso_store_core.specs.Arguments.{arity};
+ghost use Rattle.iso_store.specs.Looks.{IsLook, IsFound};
 
 use super::occurs::Task;
 use super::primitives::Primitives;
 use iso_model::NoMemory;
 use iso_store_core::Shape;
 
-/// So many arguments are looked at without notes. One that is shared counts each time.
+/// So often a compound is gone into, or gone on with, without notes. One that is shared counts each time.
 const FEW: usize = 128;
 
 /// What a term is to a search for a variable.
@@ -43,17 +44,47 @@ fn look_at<S: Primitives>(store: &S, number: u64, word: S::Word) -> Look
     }
 }
 
-/// The place behind this one, where there are so many.
+/// What the arguments of a compound are to a search for a variable, from a place on.
+#[derive(Clone, Copy)]
+enum Found<W: Copy> {
+    /// The variable is among them.
+    There,
+    /// It is in none of them.
+    Absent,
+    /// It is in none before this compound, which has so many arguments; the place behind it comes first.
+    Compound(W, usize, usize),
+}
+
+/// What the arguments from this place on are to a search for the variable of this number, of a compound of so many.
 #[inline(always)]
-fn behind(index: usize, count: usize) -> usize
-    requires { index < count }
-    ensures { result ≡ index + 1 }
+fn look_on<S: Primitives>(
+    store: &S,
+    number: u64,
+    compound: S::Word,
+    index: usize,
+    count: usize,
+) -> Found<S::Word>
+    requires compound { Holds (S.present store.now) compound }
+    requires made { arity ((S.present store.now).term compound) ≡ count }
+    requires arity { arity (meaning (S.present store.now) compound) ≡ count }
+    requires index { index ≤ count }
+    ensures { IsFound (S.present store.now) number (meaning (S.present store.now) compound) index count result }
 {
-    index + 1
+    let mut index = index;
+    while index < count {
+        let argument = store.end_of_arg(compound, count, index);
+        index += 1;
+        match look_at(store, number, argument) {
+            Look::There => return Found::There,
+            Look::Compound(many) => return Found::Compound(argument, index, many),
+            Look::Absent => {}
+        }
+    }
+    Found::Absent
 }
 
 /// Whether the variable of this number occurs in what the word stands for, with this list for what is left to do;
-/// none where that has too many arguments to tell without notes. The error is that memory was refused.
+/// none where that has too many compounds to tell without notes. The error is that memory was refused.
 pub(crate) fn in_few<S: Primitives>(
     store: &S,
     number: u64,
@@ -69,23 +100,21 @@ pub(crate) fn in_few<S: Primitives>(
         Look::Compound(all) => all,
     };
     tasks.clear();
-    let mut compound = word;
+    let mut compound = store.end(word);
     let mut index = 0;
     let mut count = all;
-    for _look in 0..FEW {
-        let argument = store.arg(compound, index);
-        index = behind(index, count);
-        match look_at(store, number, argument) {
-            Look::There => return Ok(Some(true)),
-            Look::Compound(many) => {
-                if index < count {
-                    tasks.push(Task::Search(compound, index, count))?;
+    for _turn in 0..FEW {
+        match look_on(store, number, compound, index, count) {
+            Found::There => return Ok(Some(true)),
+            Found::Compound(inner, next, many) => {
+                if next < count {
+                    tasks.push(Task::Search(compound, next, count))?;
                 }
-                compound = argument;
+                compound = inner;
                 index = 0;
                 count = many;
             }
-            Look::Absent if index == count => {
+            Found::Absent => {
                 let Some(task) = tasks.pop() else {
                     return Ok(Some(false));
                 };
@@ -96,7 +125,6 @@ pub(crate) fn in_few<S: Primitives>(
                 index = start;
                 count = many;
             }
-            Look::Absent => {}
         }
     }
     Ok(None)

@@ -2,6 +2,7 @@
 ghost use Rattle.std.specs.Prelude.{◌≡◌, ◌≢◌, ℕ, ◌+◌, ◌<◌, ◌≤◌, ◌++◌, ◌∷◌, [], length, map, take, IfOk, OnOk, OnErr, slice_get, slice_set, is_ok, if◌then◌else◌, None, Some, true, false};
 ghost use Rattle.std.specs.List.{All, list_any, position_or_len};
 ghost use Rattle.iso_atoms.specs.Texts.{EachOnce};
+ghost use Rattle.iso_model.specs.Terms.Trees.{Variable};
 ghost use Rattle.iso_model.specs.Terms.Substitutions.{apply, single};
 ghost use Rattle.iso_model.specs.Terms.Variables.{occurs};
 ghost use Rattle.iso_store.specs.HeapTerms.{made_term, heap_substitution, bound_count, variable_cells};
@@ -12,7 +13,7 @@ ghost use Rattle.iso_store.specs.Meetings.{IsYounger};
 ghost use Rattle.iso_store_core.specs.Retaining.{CountsCells};
 ghost use Rattle.iso_store.specs.HeapLemmas.{place_term};
 ghost use Rattle.iso_store.specs.Writing.{IsPlace, picked};
-ghost use Rattle.iso_store.specs.FlatCells.{IsStorable};
+ghost use Rattle.iso_store.specs.FlatCells.{IsStorable, is_unbound};
 ghost use Rattle.iso_store.specs.HeapUntouched.{heap-untouched};
 ghost use Rattle.iso_store.specs.HeapRoom.{full-used, variables-within};
 ghost use Rattle.iso_store.specs.HeapProps.{IsBefore-prop, Settles-prop};
@@ -27,7 +28,9 @@ use super::heap_builds::{build_in_place, renew_in_place};
 use super::heap_cells::{Cell, HeapMark, HeapWord};
 use super::heap_copies::copy_in_place;
 use super::heap_marks::unwind;
+use super::heap_meetings::meet_at_once;
 use super::instances::instantiate;
+use super::meetings::Meeting;
 use super::order::compare;
 use super::patterns::{Places, written};
 use super::primitives::Primitives;
@@ -184,6 +187,22 @@ impl Heap {
         }
     }
 
+    /// Whether it shows without a search that the unbound variable whose cell is at this place does not occur in what the
+    /// word stands for, which is at the end of its bindings.
+    #[inline(always)]
+    pub(crate) fn is_end_apart(&self, place: usize, word: &HeapWord) -> bool
+        requires unbound { is_unbound (slice_get self.now.area.low place) ≡ true }
+        ensures { (n : ℕ) → meaning (⟦<Heap as Primitives>⟧.present self.now) (HeapWord.Var place) ≡ Variable n → result ≡ true
+            → occurs n (meaning (⟦<Heap as Primitives>⟧.present self.now) word.now) ≡ false }
+    {
+        match word {
+            HeapWord::Var(target) | HeapWord::Structure(target) | HeapWord::Boxed(target) => {
+                self.forward < place && *target < place
+            }
+            HeapWord::Int(_) | HeapWord::Atom(_) => true,
+        }
+    }
+
     /// Binds the unbound variable of this number, whose cell is at this place, to what the word stands for; that one is
     /// at the end of its bindings. The error is that there is no room for it on the trail.
     #[inline(always)]
@@ -235,6 +254,8 @@ impl Primitives for Heap {
 
     ghost variable_place = { λ s n. position_or_len (has_cell_number n) s.area.low };
 
+    ghost at_end = { λ s w. next_word s.area.low w ≡ None };
+
     ghost takes_memory = { false };
 
     ghost atomic = { 0 };
@@ -266,6 +287,23 @@ impl Primitives for Heap {
         }
     }
 
+    #[inline(always)]
+    fn end(&self, word: HeapWord) -> HeapWord {
+        self.walked(word)
+    }
+
+    #[inline(always)]
+    fn end_of_arg(&self, compound: HeapWord, count: usize, index: usize) -> HeapWord {
+        let HeapWord::Structure(place) = compound else {
+            unreachable!()
+        };
+        let at = place - (count - index);
+        match self.area.held(at) {
+            Some(word) => self.walked(word),
+            None => HeapWord::Var(at),
+        }
+    }
+
     fn place(&self, word: HeapWord) -> Option<usize> {
         match self.walked(word) {
             HeapWord::Var(place) | HeapWord::Structure(place) | HeapWord::Boxed(place) => Some(
@@ -279,12 +317,8 @@ impl Primitives for Heap {
         let HeapWord::Var(place) = self.walked(variable) else {
             return false;
         };
-        match self.walked(word) {
-            HeapWord::Var(target) | HeapWord::Structure(target) | HeapWord::Boxed(target) => {
-                self.forward < place && target < place
-            }
-            HeapWord::Int(_) | HeapWord::Atom(_) => true,
-        }
+        let target = self.walked(word);
+        self.is_end_apart(place, &target)
     }
 
     #[inline(always)]
@@ -297,6 +331,11 @@ impl Primitives for Heap {
             Ok(()) => Ok(()),
             Err(Full) => Err(StoreFault::Full),
         }
+    }
+
+    #[inline(always)]
+    fn meet_ends(&mut self, one: HeapWord, other: HeapWord) -> Result<Meeting, StoreFault> {
+        meet_at_once(self, one, other)
     }
 
     fn alloc(&self) -> Global {

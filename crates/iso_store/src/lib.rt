@@ -14,6 +14,7 @@ mod heap_cells;
 mod heap_copies;
 mod heap_instructions;
 mod heap_marks;
+mod heap_meetings;
 mod instances;
 mod joins;
 mod meetings;

@@ -13,6 +13,7 @@ use super::copies::{build, copy_out};
 use super::duplicates::duplicate;
 use super::heads::unify_head;
 use super::instances::{instantiate, pick_words};
+use super::meetings::{Meeting, meet};
 use super::node_marks::{NodesMark, unwind};
 use super::order::compare;
 use super::patterns::{Places, written};
@@ -147,6 +148,8 @@ impl Primitives for Nodes {
 
     ghost variable_place = { λ s n. position_or_len (has_number n) s.nodes.items };
 
+    ghost at_end = { λ s w. is_bound (slice_get s.nodes.items w) ≡ false };
+
     ghost takes_memory = { true };
 
     ghost atomic = { 1 };
@@ -174,6 +177,14 @@ impl Primitives for Nodes {
         arguments[index]
     }
 
+    fn end(&self, word: usize) -> usize {
+        self.walked(word)
+    }
+
+    fn end_of_arg(&self, compound: usize, count: usize, index: usize) -> usize {
+        self.walked(Primitives::arg(self, compound, index))
+    }
+
     fn place(&self, word: usize) -> Option<usize> {
         Some(self.walked(word))
     }
@@ -192,6 +203,10 @@ impl Primitives for Nodes {
         self.forward = farther(self.forward, place, target);
         self.nodes[place] = Node::Var(number, Some(target));
         Ok(())
+    }
+
+    fn meet_ends(&mut self, one: usize, other: usize) -> Result<Meeting, StoreFault> {
+        Ok(meet(Primitives::shape(self, one), Primitives::shape(self, other)))
     }
 
     fn alloc(&self) -> Global {

@@ -135,10 +135,12 @@ fn compare_arguments<S: Primitives>(
     ensures order { IfOk result (λ o. ordering_then o (order_left (S.present store.now) [] [] tasks.new.items)
         ≡ order_left (S.present store.now) [] [] (tasks.old.items ++ Task.Arguments one other index count ∷ [])) }
 {
+    let one_end = store.end(one);
+    let other_end = store.end(other);
     let mut index = index;
     'comparing: loop {
-        let first = store.arg(one, index);
-        let second = store.arg(other, index);
+        let first = store.end_of_arg(one_end, count, index);
+        let second = store.end_of_arg(other_end, count, index);
         index += 1;
         match compare_heads(store, first, second) {
             Comparison::Decided(order) if order != Ordering::Equal => return Ok(order),

@@ -5,14 +5,15 @@ ghost use Rattle.iso_atoms.specs.Texts.{EachOnce, KeepsTexts, text_at};
 ghost use Rattle.iso_model.specs.Terms.Trees.{Tree, Integer, Name, Apply, Variable, row};
 ghost use Rattle.iso_model.specs.Terms.Sorts.{is_term};
 ghost use Rattle.iso_model.specs.Terms.Variables.{occurs};
-ghost use Rattle.iso_model.specs.Terms.Substitutions.{apply, single};
+ghost use Rattle.iso_model.specs.Terms.Substitutions.{Subst, apply, single};
 ghost use Rattle.iso_store_core.specs.Presents.{Present, Holds, meaning, KeepsWords, Makes, KeepsNumbers, TakesNumber, MovesOn, Grows, Binds, KeepsMarks, Untouched};
 ghost use Rattle.iso_store_core.specs.Arguments.{arity, argument};
 ghost use Rattle.iso_store_core.specs.Copying.{wide_cells};
 ghost use Rattle.iso_store_core.specs.Shapes.{IsShape};
-ghost use Rattle.iso_store.specs.Meetings.{IsYounger};
+ghost use Rattle.iso_store.specs.Meetings.{IsYounger, IsMetFirst};
 ghost use Rattle.iso_store.specs.Writing.{IsPlace, picked};
 
+use super::meetings::Meeting;
 use super::scratch::Scratch;
 use iso_atoms::Atom;
 use iso_model::NoMemory;
@@ -36,6 +37,8 @@ pub(crate) trait Primitives {
     ghost at_place: { Self → ℕ → Tree };
     // the place of the variable of a number
     ghost variable_place: { Self → ℕ → ℕ };
+    // whether the word is at the end of its bindings
+    ghost at_end: { Self → Self.Word → Type 0 };
     // whether a call that makes a word may take memory
     ghost takes_memory: { Bool };
     // how many cells an integer or an atom takes
@@ -56,6 +59,24 @@ pub(crate) trait Primitives {
         requires index { index < arity (meaning (present self.now) word) }
         ensures holds { Holds (present self.now) result }
         ensures value { meaning (present self.now) result ≡ argument index (meaning (present self.now) word) };
+
+    /// The end of the bindings that the word begins, which was made with the arguments that the word has.
+    fn end(&self, word: Self::Word) -> Self::Word
+        requires { Holds (present self.now) word }
+        ensures holds { Holds (present self.now) result }
+        ensures same { meaning (present self.now) result ≡ meaning (present self.now) word }
+        ensures made { arity ((present self.now).term result) ≡ arity (meaning (present self.now) word) }
+        ensures end { at_end self.now result };
+
+    /// The end of the bindings that an argument begins, of a word that was made as a compound of so many arguments.
+    fn end_of_arg(&self, compound: Self::Word, count: usize, index: usize) -> Self::Word
+        requires word { Holds (present self.now) compound }
+        requires arity { arity ((present self.now).term compound) ≡ count }
+        requires index { index < count }
+        ensures holds { Holds (present self.now) result }
+        ensures value { meaning (present self.now) result ≡ argument index (meaning (present self.now) compound) }
+        ensures made { arity ((present self.now).term result) ≡ arity (meaning (present self.now) result) }
+        ensures end { at_end self.now result };
 
     /// The place of what the word stands for: words of one place stand for one term. Variables and compounds have
     /// places.
@@ -87,6 +108,20 @@ pub(crate) trait Primitives {
         requires younger { IsYounger number (meaning (present self.old) word) }
         ensures bound { OnOk result (Binds (present self.old) (present self.new) (single number (meaning (present self.old) word))) }
         ensures places { OnOk result ((k : ℕ) → at_place self.new k ≡ apply (single number (meaning (present self.old) word)) (at_place self.old k)) }
+        ensures cells { Grows (present self.old) (present self.new) 0 0 }
+        ensures full { result ≡ Err StoreFault.Full → full self.new }
+        ensures names { names self.new ≡ names self.old }
+        ensures marks { KeepsMarks (stands self.old) (stands self.new) };
+
+    /// How two words meet that are at the end of their bindings. A variable is bound at once where it shows without a
+    /// search that it may be: then they are the same. Else nothing changes.
+    fn meet_ends(&mut self, one: Self::Word, other: Self::Word) -> Result<Meeting, StoreFault>
+        requires one { Holds (present self.old) one }
+        requires other { Holds (present self.old) other }
+        requires one_end { at_end self.old one }
+        requires other_end { at_end self.old other }
+        ensures met { IfOk result (IsMetFirst (present self.old) (present self.new) (meaning (present self.old) one) (meaning (present self.old) other)) }
+        ensures places { OnOk result ((s : Subst) × Binds (present self.old) (present self.new) s × ((k : ℕ) → at_place self.new k ≡ apply s (at_place self.old k))) }
         ensures cells { Grows (present self.old) (present self.new) 0 0 }
         ensures full { result ≡ Err StoreFault.Full → full self.new }
         ensures names { names self.new ≡ names self.old }

@@ -121,26 +121,10 @@ fn met_by(bound: bool) -> Met
     if bound { Met::Equal } else { Met::Never }
 }
 
-/// How what the words stand for meets. It is told apart first what the first one is: so no shape goes through memory.
+/// Makes what the words stand for equal, where no arguments have to be for it. The words are at the end of their
+/// bindings.
 #[inline(always)]
-fn meeting<S: Primitives>(store: &S, one: S::Word, other: S::Word) -> Meeting
-    requires one { Holds (S.present store.now) one }
-    requires other { Holds (S.present store.now) other }
-    ensures meeting { IsMeeting result (meaning (S.present store.now) one) (meaning (S.present store.now) other) }
-    ensures one_term { is_term (meaning (S.present store.now) one) ≡ true }
-    ensures other_term { is_term (meaning (S.present store.now) other) ≡ true }
-{
-    match store.shape(one) {
-        Shape::Var(number) => meet(Shape::Var(number), store.shape(other)),
-        Shape::Int(value) => meet(Shape::Int(value), store.shape(other)),
-        Shape::Atom(name) => meet(Shape::Atom(name), store.shape(other)),
-        Shape::Compound(name, count) => meet(Shape::Compound(name, count), store.shape(other)),
-    }
-}
-
-/// Makes what the words stand for equal, where no arguments have to be for it.
-#[inline(always)]
-fn meet_pair<S: Primitives>(
+fn meet_ends<S: Primitives>(
     store: &mut S,
     one: S::Word,
     other: S::Word,
@@ -148,6 +132,8 @@ fn meet_pair<S: Primitives>(
 ) -> Result<Met, StoreFault>
     requires one { Holds (S.present store.old) one }
     requires other { Holds (S.present store.old) other }
+    requires one_end { S.at_end store.old one }
+    requires other_end { S.at_end store.old other }
     ensures met { IfOk result (IsMet (S.present store.old) (S.present store.new) (meaning (S.present store.old) one) (meaning (S.present store.old) other)) }
     ensures joined { AreJoined (S.present store.old) (S.at_place store.old) notes.old.joined
         → IfOk result (λ met. met ≢ Met.Never → AreJoined (S.present store.new) (S.at_place store.new) notes.new.joined) }
@@ -156,7 +142,7 @@ fn meet_pair<S: Primitives>(
     ensures names { S.names store.new ≡ S.names store.old }
     ensures marks { KeepsMarks (S.stands store.old) (S.stands store.new) }
 {
-    match meeting(store, one, other) {
+    match store.meet_ends(one, other)? {
         Meeting::Same => Ok(Met::Equal),
         Meeting::Clash => Ok(Met::Never),
         Meeting::FirstVariable(number) => {
@@ -227,12 +213,14 @@ fn unify_arguments<S: Primitives>(
     ensures names { S.names store.new ≡ S.names store.old }
     ensures marks { KeepsMarks (S.stands store.old) (S.stands store.new) }
 {
+    let one_end = store.end(one);
+    let other_end = store.end(other);
     let mut index = index;
     'meeting: loop {
-        let first = store.arg(one, index);
-        let second = store.arg(other, index);
+        let first = store.end_of_arg(one_end, count, index);
+        let second = store.end_of_arg(other_end, count, index);
         index += 1;
-        match meet_pair(store, first, second, notes)? {
+        match meet_ends(store, first, second, notes)? {
             Met::Equal if index == count => return Ok(true),
             Met::Equal => {}
             Met::Never => return Ok(false),
@@ -278,7 +266,7 @@ fn do_task<S: Primitives>(
 
 /// Whether two compounds of one name with so many arguments can be made equal, which then is bound, with these notes,
 /// and this list for what is left to do.
-#[inline(never)]
+#[inline(always)]
 fn unify_compounds<S: Primitives>(
     store: &mut S,
     one: S::Word,
@@ -298,18 +286,18 @@ fn unify_compounds<S: Primitives>(
     ensures names { S.names store.new ≡ S.names store.old }
     ensures marks { KeepsMarks (S.stands store.old) (S.stands store.new) }
 {
-    if are_at_one_place(store, one, other) {
-        return Ok(true);
-    }
     notes.joined.begin();
     tasks.clear();
-    tasks.push(Task::Arguments(one, other, 0, count))?;
-    while let Some(task) = tasks.pop() {
+    let mut task = Task::Arguments(one, other, 0, count);
+    'working: loop {
         if !do_task(store, task, notes, tasks)? {
             return Ok(false);
         }
+        let Some(next) = tasks.pop() else {
+            return Ok(true);
+        };
+        task = next;
     }
-    Ok(true)
 }
 
 /// Whether what the words stand for can be made equal, which then is bound, with these notes, and this list for what
@@ -329,7 +317,9 @@ pub(crate) fn unify_with<S: Primitives>(
     ensures names { S.names store.new ≡ S.names store.old }
     ensures marks { KeepsMarks (S.stands store.old) (S.stands store.new) }
 {
-    match meet_pair(store, one, other, notes)? {
+    let one = store.end(one);
+    let other = store.end(other);
+    match meet_ends(store, one, other, notes)? {
         Met::Equal => Ok(true),
         Met::Never => Ok(false),
         Met::Compounds(count) => unify_compounds(store, one, other, count, notes, tasks),

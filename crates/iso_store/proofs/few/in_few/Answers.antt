@@ -1,97 +1,100 @@
-use Rattle.std.proofs.Common.{◌≡◌, ◌+◌, ◌<◌, ◌∷◌, ◌++◌, [], false, refl, ap, sym, ◌∙◌, arith, rules, Some}
+use Rattle.std.proofs.Common.{◌≡◌, ◌∷◌, ◌++◌, [], ap, sym, ◌∙◌, arith, rules, Some}
 use Rattle.std.proofs.lemmas.List.{nil_from_length}
 use Rattle.std.proofs.lemmas.List.Elements.{All-pop, All-push}
+use Rattle.iso_model.specs.Terms.Sorts.{is_term}
 use Rattle.iso_model.specs.Terms.Variables.{occurs}
+use Rattle.iso_store_core.specs.Arguments.{arity}
 use Rattle.iso_store_core.specs.Presents.{meaning}
 use Rattle.iso_store.specs.declared.occurs.Task.TheVariants.{Search}
-use Rattle.iso_store.specs.Searching.{IsThere, found}
-use Rattle.iso_store.proofs.FewLemmas.{whole-there, whole-found, found-more, found-last, found-there}
-use Rattle.iso_store.proofs.few.in_few.Goals.{in-Compound-look_at+then-index-count+in_ok-push-in-Compound-look_at, in-Compound-look_at+else-index-count, in-Absent-look_at+in-Some+in-Search, in-Absent-look_at+else-index-count-2}
+use Rattle.iso_store.specs.Searching.{found}
+use Rattle.iso_store.proofs.FewLemmas.{IsMade, whole-there, whole-found, found-there, found-none, found-into, found-last}
+use Rattle.iso_store.proofs.few.in_few.Goals.{in-Compound-look_on+then-next-count+in_ok-push-in-Compound-look_on, in-Compound-look_on+else-next-count, in-Absent-look_on+in-Some+in-Search}
 use Rattle.iso_store.proofs.few.in_few.Goals as goal
 
-pub loop-look-init : goal.loop-look-init
-loop-look-init g c =
+pub loop-turn-init : goal.loop-turn-init
+loop-turn-init g c =
     let p = g.S.Primitives.present c.args.store.now in
     let at = g.S.Primitives.at_place c.args.store.now in
     let e = c.in-Compound.ensures in
+    let word = c.end-compound.result in
+    let same = c.end-compound.ensures.same in
+    let whole = same ∙ e.2 in
+    let sort = ap is_term same ∙ e.4 in
+    let x = c.args.number in
+    let there = whole-there p word c.in-Compound.all e.0 e.1 whole e.3 sort c.end-compound.ensures.holds in
+    let inside : occurs x (meaning p word) ≡ occurs x (meaning p c.args.word) = ap (occurs x) same in
     record {
       there = rw c.clear.ensures.items (search rules);
-      here = whole-there p c.args.word c.in-Compound.all e.0 e.1 e.2 e.3 e.4 c.requires;
+      here = (there, c.end-compound.ensures.made ∙ sym (ap arity same) ∙ there.2);
       found =
-          whole-found p c.args.word c.in-Compound.all e.0 e.1 e.2 e.3 e.4 at c.args.number (occurs c.args.number (meaning p c.args.word)) c.clear.new.self.items
-          (ap (found p at c.args.number (occurs c.args.number (meaning p c.args.word))) c.clear.ensures.items);
+          whole-found p word c.in-Compound.all e.0 e.1 whole e.3 sort at x (occurs x (meaning p c.args.word)) c.clear.new.self.items
+          (ap (found p at x (occurs x (meaning p word))) c.clear.ensures.items ∙ inside);
     }
 
-pub returns-in-There-look_at : goal.returns-in-There-look_at
-returns-in-There-look_at g c =
+pub returns-in-There-look_on : goal.returns-in-There-look_on
+returns-in-There-look_on g c =
     let p = g.S.Primitives.present c.args.store.now in
     let at = g.S.Primitives.at_place c.args.store.now in
-    let i = c.loop-look.invariant in
-    found-there p at c.args.number c.loop-look.tasks.items c.loop-look.compound c.loop-look.index c.loop-look.count i.here.1 i.here.2 (meaning p c.arg-argument.result) c.arg-argument.ensures.value
-    (occurs c.args.number (meaning p c.args.word)) i.found c.in-There-look_at.ensures
+    let i = c.loop-turn.invariant in
+    found-there p at c.args.number c.loop-turn.tasks.items c.loop-turn.compound c.loop-turn.index c.loop-turn.count (occurs c.args.number (meaning p c.args.word)) i.found c.in-There-look_on.ensures
 
 pub returns-in_default : goal.returns-in_default
 returns-in_default g c =
     let p = g.S.Primitives.present c.args.store.now in
     let at = g.S.Primitives.at_place c.args.store.now in
-    let i = c.loop-look.invariant in
-    let none : c.loop-look.tasks.items ≡ [] = nil_from_length _ (sym c.loop-look.tasks.ok.0 ∙ c.in_default.ensures.cases.0) in
-    rw none at (found-last p at c.args.number c.loop-look.tasks.items c.loop-look.compound c.loop-look.index c.loop-look.count i.here.1 i.here.2 (meaning p c.arg-argument.result) c.arg-argument.ensures.value
-    (occurs c.args.number (meaning p c.args.word)) i.found false c.in-Absent-look_at.ensures (sym c.behind-index.ensures ∙ c.if-index-count-2.true))
+    let i = c.loop-turn.invariant in
+    let none : c.loop-turn.tasks.items ≡ [] = nil_from_length _ (sym c.loop-turn.tasks.ok.0 ∙ c.in_default.ensures.cases.0) in
+    rw none at (found-none p at c.args.number c.loop-turn.tasks.items c.loop-turn.compound c.loop-turn.index c.loop-turn.count (occurs c.args.number (meaning p c.args.word)) i.found c.in-Absent-look_on.ensures)
 
-pub loop-look-preserved : goal.loop-look-preserved
-loop-look-preserved g c =
+pub loop-turn-preserved : goal.loop-turn-preserved
+loop-turn-preserved g c =
     let p = g.S.Primitives.present c.args.store.now in
     let at = g.S.Primitives.at_place c.args.store.now in
     let x = c.args.number in
-    let i = c.loop-look.invariant in
-    let xs = c.loop-look.tasks.items in
-    let word = c.loop-look.compound in
-    let index = c.loop-look.index in
-    let next = c.behind-index.ensures in
-    let count = c.loop-look.count in
-    let argument = c.arg-argument.result in
-    let t = meaning p argument in
+    let i = c.loop-turn.invariant in
+    let xs = c.loop-turn.tasks.items in
+    let word = c.loop-turn.compound in
+    let index = c.loop-turn.index in
+    let count = c.loop-turn.count in
     let all = occurs x (meaning p c.args.word) in
-    elim c.match-look_at-2.branch [
-      | in-Compound-look_at+then-index-count+in_ok-push-in-Compound-look_at w ↦
-          let e = w.in-Compound-look_at.ensures in
-          let more = w.in_ok-push-in-Compound-look_at.ensures.items in
+    elim c.match-look_on.branch [
+      | in-Compound-look_on+then-next-count+in_ok-push-in-Compound-look_on w ↦
+          let inner = w.in-Compound-look_on.inner in
+          let next = w.in-Compound-look_on.next in
+          let e = w.in-Compound-look_on.ensures in
+          let look = e.1 in
+          let more = w.in_ok-push-in-Compound-look_on.ensures.items in
+          let there = whole-there p inner _ look.0 look.1 look.2 look.3 look.4 e.0 in
           rw (w.tasks-is, w.compound-is, w.index-is, w.count-is)
           (record {
-            there = rw (more, next) (All-push (IsThere p) xs (Search word (index + 1) count) i.there (i.here.0, rw next at w.if-index-count.true, i.here.2));
-            here = whole-there p argument _ e.0 e.1 e.2 e.3 e.4 c.arg-argument.ensures.holds;
+            there = rw more (All-push (IsMade p) xs (Search word next count) i.there ((i.here.0.0, w.if-next-count.true, i.here.0.2), i.here.1));
+            here = (there, e.2);
             found =
-                whole-found p argument _ e.0 e.1 e.2 e.3 e.4 at x all w.push.new.self.items
-                (found-more p at x xs word index count i.here.1 i.here.2 t c.arg-argument.ensures.value all i.found (occurs x t) w.push.new.self.items refl (rw next at more));
+                whole-found p inner _ look.0 look.1 look.2 look.3 look.4 at x all w.push.new.self.items
+                (found-into p at x xs word index count all i.found (meaning p inner) next e.4 w.push.new.self.items more);
           })
-      | in-Compound-look_at+else-index-count w ↦
-          let e = w.in-Compound-look_at.ensures in
-          let last : index + 1 ≡ count = omega (arith, i.here.1, next, w.if-index-count.false) in
+      | in-Compound-look_on+else-next-count w ↦
+          let inner = w.in-Compound-look_on.inner in
+          let next = w.in-Compound-look_on.next in
+          let e = w.in-Compound-look_on.ensures in
+          let look = e.1 in
+          let last : next ≡ count = omega (arith, e.3, w.if-next-count.false) in
+          let there = whole-there p inner _ look.0 look.1 look.2 look.3 look.4 e.0 in
           rw (w.tasks-is, w.compound-is, w.index-is, w.count-is)
           (record {
             there = i.there;
-            here = whole-there p argument _ e.0 e.1 e.2 e.3 e.4 c.arg-argument.ensures.holds;
+            here = (there, e.2);
             found =
-                whole-found p argument _ e.0 e.1 e.2 e.3 e.4 at x all xs
-                (found-last p at x xs word index count i.here.1 i.here.2 t c.arg-argument.ensures.value all i.found (occurs x t) refl last);
+                whole-found p inner _ look.0 look.1 look.2 look.3 look.4 at x all xs
+                (found-last p at x xs word index count all i.found (meaning p inner) next e.4 last i.here.0.2);
           })
-      | in-Absent-look_at+in-Some+in-Search w ↦
+      | in-Absent-look_on+in-Some+in-Search w ↦
           let taken : xs ≡ w.pop.new.self.items ++ Search w.in-Search.next w.in-Search.start w.in-Search.many ∷ [] = w.in-Some.ensures.items ∙ ap (λ k. w.pop.new.self.items ++ k ∷ []) w.in-Search.is in
-          let both = All-pop (IsThere p) xs w.pop.new.self.items (Some (Search w.in-Search.next w.in-Search.start w.in-Search.many)) taken i.there in
+          let both = All-pop (IsMade p) xs w.pop.new.self.items (Some (Search w.in-Search.next w.in-Search.start w.in-Search.many)) taken i.there in
           rw (w.tasks-is, w.compound-is, w.index-is, w.count-is)
           (record {
             there = both.0;
             here = both.1;
-            found =
-                rw taken at (found-last p at x xs word index count i.here.1 i.here.2 t c.arg-argument.ensures.value all i.found false w.in-Absent-look_at.ensures (sym next ∙ w.if-index-count-2.true));
-          })
-      | in-Absent-look_at+else-index-count-2 w ↦
-          let below : index + 1 < count = omega (arith, i.here.1, next, w.if-index-count-2.false) in
-          rw (w.tasks-is, w.compound-is, w.index-is, w.count-is, next)
-          (record {
-            there = i.there;
-            here = (i.here.0, below, i.here.2);
-            found = found-more p at x xs word index count i.here.1 i.here.2 t c.arg-argument.ensures.value all i.found false (xs ++ Search word (index + 1) count ∷ []) w.in-Absent-look_at.ensures refl;
+            found = rw taken at (found-none p at x xs word index count all i.found w.in-Absent-look_on.ensures);
           })
     ]

@@ -3,11 +3,14 @@ use Rattle.std.proofs.Common.{◌≡◌, ◌-◌, [], ◌∷◌, ◌++◌}
 use Rattle.iso_store_core.specs.Presents.{Grows, KeepsMarks}
 use Rattle.iso_store.specs.declared.unify.Task.TheVariants.{Arguments}
 use Rattle.iso_store.specs.Unifying.{IsPair, Stands}
+use Rattle.iso_store.proofs.EndLemmas.{IsEnd}
 use Rattle.iso_store.proofs.PairLemmas.{Leads}
 use Rattle.iso_store.proofs.unify.unify_arguments.Given as goal
 
 abbrev pub invariant-meeting : goal.invariant-meeting
 invariant-meeting g l = record {
+  one : IsEnd (g.S.Primitives.present l.store) l.one l.one_end l.count;
+  other : IsEnd (g.S.Primitives.present l.store) l.other l.other_end l.count;
   pair : IsPair (g.S.Primitives.present l.store) (Arguments l.one l.other l.index l.count);
   stands : Stands (g.S.Primitives.present l.store) (g.S.Primitives.at_place l.store) l.notes.joined [] [] (l.tasks.items ++ Arguments l.one l.other l.index l.count ∷ []);
   leads : Leads (g.S.Primitives.present l.fn.store) (g.S.Primitives.present l.store)
