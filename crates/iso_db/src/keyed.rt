@@ -154,11 +154,7 @@ pub(crate) fn next_usable<C>(
 
 /// A view of a whole procedure, for a call with this key, whose next clause was taken ahead.
 #[inline(always)]
-pub(crate) fn whole_behind(
-    key: Option<FirstKey>,
-    next: Option<ClauseId>,
-    rest: View,
-) -> KeyedView
+pub(crate) fn whole_behind(key: Option<FirstKey>, next: Option<ClauseId>, rest: View) -> KeyedView
     ensures whole { result.whole ≡ true }
     ensures key { result.key ≡ key }
     ensures own { result.own ≡ record { next = next; rest = rest } }

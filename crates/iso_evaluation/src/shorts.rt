@@ -25,9 +25,7 @@ fn short_operand<S: Cells>(store: &S, operand: &Operand, environment: &[S::Word]
         → IfSome result (λ x. operand_value (S.names store.now) next s operand.now ≡ Ok x) }
 {
     match operand {
-        Operand::New(variable) | Operand::Old(variable) => {
-            store.short(environment[*variable])
-        }
+        Operand::New(variable) | Operand::Old(variable) => { store.short(environment[*variable]) }
         Operand::Integer(value) => i64::try_from(*value).ok(),
         Operand::Atom(_) | Operand::Inner(_) => None,
     }

@@ -51,11 +51,13 @@ loop-next-preserved g c =
     slice_get_read slots (length slots) id slot refl within (c.index-slot.ensures ∙ ap (λ k. get_or slots k slot) c.number.ensures) in
     let left : List (Clause g.row.C.Denot) = given slots made (drop n numbers) in
     let clause = ap (λ o. is_some (option_and_then (given_by made id) o)) here in
-    let keyed = ap (λ o. fits key (option_and_then (λ (l : Label). l.key) (option_map (λ (s : Slot g.row.C.Denot). s.label) o))) here in
-    (omega (arith, c.loop-next.invariant.0), elim c.else-is_there.branch [
-      | else-is_there-via-then-is_there+else-fits w ↦ (
-          let steps = given-steps slots made numbers n id c.loop-next-test.true is (clause ∙ sym (w.if-is_there.ensures id)) in
-          ap (usable slots key) steps.1 ∙ usable_passed slots key id left steps.0 (keyed ∙ sym w.if-fits.ensures) ∙ c.loop-next.invariant.1)
-      | else-is_there-via-else-is_there w ↦
-          ap (usable slots key) (given-passes slots made numbers n id c.loop-next-test.true is (clause ∙ sym (w.if-is_there.ensures id))) ∙ c.loop-next.invariant.1
-    ])
+    let keyed = ap (λ o. fits key (option_and_then (λ (l : Label). l.key) (option_map (λ (s : Slot g.row.C.Denot). s.label) o))) here in (
+      omega (arith, c.loop-next.invariant.0),
+      elim c.else-is_there.branch [
+        | else-is_there-via-then-is_there+else-fits w ↦ (
+            let steps = given-steps slots made numbers n id c.loop-next-test.true is (clause ∙ sym (w.if-is_there.ensures id)) in
+            ap (usable slots key) steps.1 ∙ usable_passed slots key id left steps.0 (keyed ∙ sym w.if-fits.ensures) ∙ c.loop-next.invariant.1)
+        | else-is_there-via-else-is_there w ↦
+            ap (usable slots key) (given-passes slots made numbers n id c.loop-next-test.true is (clause ∙ sym (w.if-is_there.ensures id))) ∙ c.loop-next.invariant.1
+      ],
+    )

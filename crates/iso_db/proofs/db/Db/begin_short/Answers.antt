@@ -58,8 +58,8 @@ returns-then-is_none g c =
     let numbers = c.back-numbers.ensures ∙ ap (λ b. b.back) c.current.ensures ∙ ap (λ (k : Kept). k.current.back) same in
     let is_made = ap (λ (v : View). v.made) c.view_of-view.ensures in
     let one = short_taken slots r db.entries.items place key e all _ _ at (c.requires.at_end e at) gives
-        (steps_same slots key _ r _ e.first _ e.current.back _ _ is_made
-        (ap (λ (v : View). v.next) c.view_of-view.ensures ∙ ap (λ (k : Kept). k.first) same) numbers c.next_usable-first.ensures.steps) in
+    (steps_same slots key _ r _ e.first _ e.current.back _ _ is_made
+    (ap (λ (v : View). v.next) c.view_of-view.ensures ∙ ap (λ (k : Kept). k.first) same) numbers c.next_usable-first.ensures.steps) in
     let none = sym (ap is_some one.0) ∙ c.if-is_none.ensures in
     record {
       begins = record {
@@ -90,10 +90,10 @@ returns-then-is_some g c =
     let numbers = c.back-numbers.ensures ∙ ap (λ b. b.back) c.current.ensures ∙ ap (λ (k : Kept). k.current.back) same in
     let is_made = ap (λ (v : View). v.made) c.view_of-view.ensures in
     let one = short_taken slots r db.entries.items place key e all _ _ at (c.requires.at_end e at) gives
-        (steps_same slots key _ r _ e.first _ e.current.back _ _ is_made
-        (ap (λ (v : View). v.next) c.view_of-view.ensures ∙ ap (λ (k : Kept). k.first) same) numbers c.next_usable-first.ensures.steps) in
+    (steps_same slots key _ r _ e.first _ e.current.back _ _ is_made
+    (ap (λ (v : View). v.next) c.view_of-view.ensures ∙ ap (λ (k : Kept). k.first) same) numbers c.next_usable-first.ensures.steps) in
     let two = steps_same slots key _ r c.next_usable-first.result.1 c.next_usable-first.result.1 _ e.current.back _ _ is_made refl numbers
-        c.next_usable-second.ensures.steps in
+    c.next_usable-second.ensures.steps in
     record {
       begins = record {
         is = one.0;
@@ -126,10 +126,10 @@ returns-else-is_some g c =
     let numbers = c.back-numbers.ensures ∙ ap (λ b. b.back) c.current.ensures ∙ ap (λ (k : Kept). k.current.back) same in
     let is_made = ap (λ (v : View). v.made) c.view_of-view.ensures in
     let one = short_taken slots r db.entries.items place key e all _ _ at (c.requires.at_end e at) gives
-        (steps_same slots key _ r _ e.first _ e.current.back _ _ is_made
-        (ap (λ (v : View). v.next) c.view_of-view.ensures ∙ ap (λ (k : Kept). k.first) same) numbers c.next_usable-first.ensures.steps) in
+    (steps_same slots key _ r _ e.first _ e.current.back _ _ is_made
+    (ap (λ (v : View). v.next) c.view_of-view.ensures ∙ ap (λ (k : Kept). k.first) same) numbers c.next_usable-first.ensures.steps) in
     let two = steps_same slots key _ r c.next_usable-first.result.1 c.next_usable-first.result.1 _ e.current.back _ _ is_made refl numbers
-        c.next_usable-second.ensures.steps in
+    c.next_usable-second.ensures.steps in
     record {
       begins = record {
         is = one.0;
