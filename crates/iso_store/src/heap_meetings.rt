@@ -124,7 +124,7 @@ fn meet_variable(heap: &mut Heap, place: usize, other: HeapWord) -> Result<Meeti
 }
 
 /// How what the words stand for meets. It is told apart first what the first one is: so no shape goes through memory.
-#[inline(always)]
+#[inline(never)]
 fn meet_shapes(heap: &Heap, one: HeapWord, other: HeapWord) -> Meeting
     requires one { Holds (⟦<Heap as Primitives>⟧.present heap.now) one }
     requires other { Holds (⟦<Heap as Primitives>⟧.present heap.now) other }

@@ -86,7 +86,7 @@ fn occurs_for<S: Primitives>(
 }
 
 /// Binds the variable of this number to what the other word stands for, unless it occurs there.
-#[inline(always)]
+#[inline(never)]
 fn bind_checked<S: Primitives>(
     store: &mut S,
     number: u64,
