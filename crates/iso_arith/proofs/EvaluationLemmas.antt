@@ -1,5 +1,5 @@
 -- Expressions that are evaluated step by step.
-use Rattle.std.proofs.Common.{◌≡◌, ◌<◌, ◌≤◌, ◌+◌, ℕ, List, [], ◌∷◌, ◌++◌, Option, Some, Ok, Err, Bool, true, false, ◌&&◌, refl, sym, ap, ap₂, ◌∙◌, subst, arith}
+use Rattle.std.proofs.Common.{◌≡◌, ◌<◌, ◌≤◌, ◌+◌, ℕ, List, [], ◌∷◌, ◌++◌, Option, Some, None, Ok, Err, IfSome, Bool, true, false, ◌&&◌, refl, sym, ap, ap₂, ◌∙◌, subst, arith}
 use Rattle.std.specs.Prelude.{ℤ, Result}
 use Rattle.std.specs.Result.{IfOk, IsErrAnd}
 use Rattle.std.specs.Option.{option_map}
@@ -174,3 +174,21 @@ module _ {W : Type 0} (p : Present W) where
 pub fault_answers : (names : List (List ℕ)) (r : Result ℤ EvalFault) (e : EvalFault) (v : Value) → IsErrAnd r (λ x. x ≡ e) → IsFault names e v → IsAnswer names r v
 fault_answers names (Ok z) e v h fault = absurd h
 fault_answers names (Err x) e v h fault = subst (λ (y : EvalFault). IsFault names y v) (sym h) fault
+
+-- ---- values that are found at once
+
+module _ (names : List (List ℕ)) (name n : ℕ) (t : Tree) (h : IsCall names name n t) where
+  pub value_of_one : n ≡ 1 → (found : Option Unary) (f : Unary) → found ≡ Some f → option_map does_unary found ≡ among operations_of_one (text_at names name)
+      → (a : Tree) (x : ℤ) → a ≡ argument 0 t → value a ≡ Ok x → (r : Option ℤ) → IfSome r (λ z. does_unary f x ≡ Ok z) → IfSome r (λ z. value t ≡ Ok z)
+  value_of_one one found f is table a x first left None made = tt
+  value_of_one one found f is table a x first left (Some z) made =
+      some_of_one names name n t h one found f is table ∙ ap (λ (v : Value). with_value v (does_unary f)) (ap value (sym first) ∙ left) ∙ made
+
+  pub value_of_two : n ≡ 2 → (found : Option Binary) (f : Binary) → found ≡ Some f → option_map does_binary found ≡ among operations_of_two (text_at names name)
+      → (a b : Tree) (x y : ℤ) → a ≡ argument 0 t → b ≡ argument 1 t → value a ≡ Ok x → value b ≡ Ok y
+      → (r : Option ℤ) → IfSome r (λ z. does_binary f x y ≡ Ok z) → IfSome r (λ z. value t ≡ Ok z)
+  value_of_two two found f is table a b x y first second left right None made = tt
+  value_of_two two found f is table a b x y first second left right (Some z) made =
+      some_of_two names name n t h two found f is table
+      ∙ ap₂ (λ (u v : Value). with_value u (λ (c : ℤ). with_value v (does_binary f c))) (ap value (sym first) ∙ left) (ap value (sym second) ∙ right)
+      ∙ made

@@ -1,4 +1,5 @@
-//! Expressions are evaluated (7.9) by a list of what is left to do, so that the stack of the host stays as it is.
+//! Expressions are evaluated (7.9): small ones at once, others by a list of what is left to do, so that the stack of the
+//! host stays as it is.
 ghost use Rattle.std.specs.Prelude.{◌≡◌, ◌<◌, ◌+◌, Ok, IfOk, OnOk};
 ghost use Rattle.std.specs.List.{All};
 ghost use Rattle.iso_model.specs.Search.Arithmetic as expressions;
@@ -11,6 +12,7 @@ ghost use Rattle.iso_arith.specs.Evaluations.{IsTask, IsNext, IsStep, IsCall, ta
 use super::evaluables::Evaluables;
 use super::faults::EvalFault;
 use super::operations::{Binary, Unary};
+use super::shorts::short_eval;
 use iso_atoms::Atom;
 use iso_store_core::{Shape, Store};
 use std::alloc::Global;
@@ -150,8 +152,9 @@ fn go_on<S: Store>(
     }
 }
 
-/// The value of the expression that the word stands for, or why it has none. The store isn't changed.
-pub fn eval<S: Store>(
+/// The value of any expression, or why it has none, by a list of what is left to do.
+#[inline(never)]
+fn eval_any<S: Store>(
     alloc: Global,
     store: &S,
     evaluables: &Evaluables,
@@ -171,5 +174,23 @@ pub fn eval<S: Store>(
                 None => return Ok(value),
             },
         };
+    }
+}
+
+/// The value of the expression that the word stands for, or why it has none. The store isn't changed.
+#[inline(always)]
+pub fn eval<S: Store>(
+    alloc: Global,
+    store: &S,
+    evaluables: &Evaluables,
+    expression: S::Word,
+) -> Result<i128, EvalFault>
+    requires expression { Holds (S.present store.now) expression }
+    requires evaluables { AreEvaluables (S.names store.now) evaluables.now }
+    ensures { IsAnswer (S.names store.now) result (expressions.value (meaning (S.present store.now) expression)) }
+{
+    match short_eval(store, evaluables, expression) {
+        Some(value) => Ok(i128::from(value)),
+        None => eval_any(alloc, store, evaluables, expression),
     }
 }

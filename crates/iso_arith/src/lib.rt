@@ -6,6 +6,7 @@ mod evaluation;
 mod faults;
 mod operations;
 mod quotients;
+mod shorts;
 mod tables;
 
 pub use evaluables::Evaluables;

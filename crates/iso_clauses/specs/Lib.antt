@@ -2,6 +2,8 @@ pub mod Clauses
 pub mod Orders
 pub mod Fits
 pub mod Blocks
+pub mod Numbers
+pub mod Older
 pub mod Slots
 pub mod Sides
 pub mod Stepping

@@ -1,125 +1,31 @@
 //! What is kept of a procedure, or of a part of one: blocks of the numbers of its clauses. A block only grows, so that a
 //! view knows the clauses of its making by how long the block was.
-ghost use Rattle.std.specs.Prelude.{◌≡◌, ◌≤◌, ◌<◌, ◌+◌, ◌++◌, ◌∷◌, [], ℕ, true, length, get_or, OnOk, OnErr};
-ghost use Rattle.iso_clauses.specs.Blocks.{Ids, Kept, ids_from, block_of, no_ids, nothing_kept, grown, passed, pushed, forgotten};
+ghost use Rattle.std.specs.Prelude.{◌≡◌, ◌++◌, ◌∷◌, [], length, IfSome, OnOk, OnErr};
+ghost use Rattle.iso_clauses.specs.Blocks.{Kept, block_of, nothing_kept, passed, pushed, forgotten};
 
 use super::ids::ClauseId;
+use super::numbers::Block;
 use std::alloc::{AllocError, Global};
 use std::marker::Model;
 use std::mem;
 
-/// Numbers of clauses, in two parts that are pushed onto.
+/// The blocks that only views made before need.
 #[derive(Drop)]
-pub struct Block {
-    /// Those that were added at the front, the outermost last.
-    front: Vec<ClauseId>,
-    /// Those that were added at the end.
-    back: Vec<ClauseId>,
-}
-
-impl Model for Block {
-    ghost use Rattle.iso_clauses.specs.Blocks.{Ids};
-
-    ghost Value = { Ids };
-
-    ghost view = { λ b. record { front = b.front.items; back = b.back.items } };
-}
-
-impl Block {
-    /// No clauses. Takes no memory.
-    fn new(alloc: Global) -> Block
-        ensures { result ≡ no_ids }
-    {
-        Block {
-            front: Vec::new(alloc),
-            back: Vec::new(alloc),
-        }
-    }
-
-    /// The number at this position, where `outer` numbers of the front are counted.
-    #[inline(always)]
-    pub(crate) fn at(&self, outer: usize, position: usize) -> ClauseId
-        requires outer { outer ≤ length self.now.front }
-        requires position { position < outer + length self.now.back }
-        ensures { result ≡ get_or (ids_from self.now outer) position result }
-    {
-        if position < outer {
-            self.front[outer - 1 - position]
-        } else {
-            self.back[position - outer]
-        }
-    }
-
-    /// How many numbers the front has.
-    #[inline(always)]
-    pub(crate) fn outer(&self) -> usize
-        ensures { result ≡ length self.now.front }
-    {
-        self.front.len()
-    }
-
-    /// How many numbers there are.
-    #[inline(always)]
-    pub(crate) fn len(&self) -> usize
-        ensures { result ≡ length self.now.front + length self.now.back }
-    {
-        self.front.len() + self.back.len()
-    }
-
-    /// A block of these numbers.
-    pub(crate) fn of(front: Vec<ClauseId>, back: Vec<ClauseId>) -> Block
-        ensures { result ≡ record { front = front.items; back = back.items } }
-    {
-        Block { front, back }
-    }
-
-    /// The numbers that were added at the front, the outermost last.
-    pub(crate) fn front(&self) -> &[ClauseId]
-        ensures { result.now ≡ self.now.front }
-    {
-        self.front.as_slice()
-    }
-
-    /// The numbers that were added at the end.
-    #[inline(always)]
-    pub fn back(&self) -> &[ClauseId]
-        ensures { result.now ≡ self.now.back }
-    {
-        self.back.as_slice()
-    }
-
-    /// Adds a number at this side. The error is that memory was refused; nothing changed then.
-    fn push(&mut self, id: ClauseId, side: Side) -> Result<(), AllocError>
-        ensures pushed { OnOk result (self.new ≡ grown side id self.old) }
-        ensures unchanged { OnErr result (self.new ≡ self.old) }
-    {
-        match side {
-            Side::First => self.front.push(id)?,
-            Side::Last => self.back.push(id)?,
-        }
-        Ok(())
-    }
-
-    /// Takes the number away that was added last, at this side.
-    fn pop(&mut self, side: Side)
-        ensures { (id : ℕ) (b : Ids) → self.old ≡ grown side id b → self.new ≡ b }
-    {
-        let _ = match side {
-            Side::First => self.front.pop(),
-            Side::Last => self.back.pop(),
-        };
-    }
+enum Older {
+    None(Global),
+    Some(Box<Vec<Block>>),
 }
 
 /// What is kept of a procedure, or of a part of one.
 #[derive(Drop)]
 pub struct Entry {
+    /// How many of the block's first numbers are those of clauses that were removed. What a look for a clause reads
+    /// begins here, and lies close together.
+    first: usize,
     /// Blocks that only views made before need.
-    older: Vec<Block>,
+    older: Older,
     /// The block of the clauses as they are now.
     current: Block,
-    /// How many of the block's first numbers are those of clauses that were removed.
-    first: usize,
     /// How many removals were counted since the block was made.
     removed: usize,
 }
@@ -129,7 +35,9 @@ impl Model for Entry {
 
     ghost Value = { Kept };
 
-    ghost view = { λ e. record { older = e.older.items; current = e.current; first = e.first } };
+    ghost use Rattle.iso_clauses.specs.Older.{older_in};
+
+    ghost view = { λ e. record { older = older_in e.older; current = e.current; first = e.first } };
 }
 
 /// Where a clause is added.
@@ -153,9 +61,9 @@ impl Entry {
         ensures { result ≡ nothing_kept }
     {
         Entry {
-            older: Vec::new(alloc),
-            current: Block::new(alloc),
             first: 0,
+            older: Older::None(alloc),
+            current: Block::new(alloc),
             removed: 0,
         }
     }
@@ -165,7 +73,10 @@ impl Entry {
     pub(crate) fn latest(&self) -> usize
         ensures { result ≡ length self.now.older }
     {
-        self.older.len()
+        match &self.older {
+            Older::None(_) => 0,
+            Older::Some(blocks) => blocks.len(),
+        }
     }
 
     /// The block of this number.
@@ -173,11 +84,12 @@ impl Entry {
     pub(crate) fn block(&self, block: usize) -> &Block
         ensures { result.now ≡ block_of self.now block }
     {
-        if block < self.older.len() {
-            &self.older[block]
-        } else {
-            &self.current
+        if let Older::Some(blocks) = &self.older {
+            if block < blocks.len() {
+                return &blocks[block];
+            }
         }
+        &self.current
     }
 
     /// How many of the block's first numbers new views pass over.
@@ -218,12 +130,12 @@ impl Entry {
         self.current.len() <= Entry::SHORT
     }
 
-    /// Whether there are so few numbers, and all were added at the end.
+    /// The numbers of a procedure, where there are so few and all were added at the end.
     #[inline(always)]
-    pub fn is_short_at_end(&self) -> bool
-        ensures { result ≡ true → self.now.current.front ≡ [] }
+    pub fn few_at_end(&self) -> Option<&[ClauseId]>
+        ensures { IfSome result (λ ns. (ns.now ≡ self.now.current.back) × (self.now.current.front ≡ [])) }
     {
-        self.current.front.is_empty() && self.current.back.len() <= Entry::SHORT
+        self.current.few_at_end(Entry::SHORT)
     }
 
     /// Counts a removal, and tells whether so many of the block's clauses were removed that it is to be made anew.
@@ -240,8 +152,15 @@ impl Entry {
         ensures renewed { OnOk result (self.new ≡ record self.old { older = self.old.older ++ self.old.current ∷ []; current = block; first = 0 }) }
         ensures unchanged { OnErr result (self.new ≡ self.old) }
     {
+        if let Older::None(alloc) = &self.older {
+            let alloc = *alloc;
+            self.older = Older::Some(Box::new(alloc, Vec::new(alloc))?);
+        }
+        let Older::Some(blocks) = &mut self.older else {
+            return Err(AllocError);
+        };
         let current = mem::replace(&mut self.current, block);
-        if let Err(refused) = self.older.push(current) {
+        if let Err(refused) = blocks.push(current) {
             self.current = refused.value;
             return Err(AllocError);
         }
@@ -254,7 +173,9 @@ impl Entry {
     pub(crate) fn forget_older(&mut self)
         ensures { self.new ≡ forgotten self.old }
     {
-        self.older.clear();
+        if let Older::Some(blocks) = &mut self.older {
+            blocks.clear();
+        }
     }
 }
 
@@ -272,7 +193,7 @@ pub(crate) fn push_both(
     ensures part_stays { OnErr result (part.new ≡ part.old) }
 {
     whole.current.push(id, side)?;
-    if part.current.push(id, side).is_err() {
+    if part.current.push_in_place(id, side).is_err() {
         whole.current.pop(side);
         return Err(AllocError);
     }

@@ -6,14 +6,16 @@ mod adding;
 mod blocks;
 mod ids;
 mod keys;
+mod numbers;
 mod slots;
 mod tidying;
 mod views;
 
 pub use adding::add;
-pub use blocks::{Block, Entry, Side};
+pub use blocks::{Entry, Side};
 pub use ids::ClauseId;
 pub use keys::{FirstKey, fits};
+pub use numbers::Block;
 pub use slots::{Label, Slot, belongs, is_front, is_given, is_there, kill, kill_all};
 pub use tidying::{forget_blocks, forget_values, tidy, trim, trim_parts};
 pub use views::{View, next_from, view_of};

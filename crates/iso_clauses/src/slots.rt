@@ -3,9 +3,10 @@ ghost use Rattle.std.specs.Prelude.{◌≡◌, ◌<◌, ℕ, length, is_some};
 ghost use Rattle.iso_clauses.specs.Slots.{lives, given_by, clause_at, procedure_at, is_place, is_front, IsCounted, Removes, Clears};
 ghost use Rattle.iso_clauses.specs.Blocks.{ids};
 
-use super::blocks::{Block, Side};
+use super::blocks::Side;
 use super::ids::ClauseId;
 use super::keys::FirstKey;
+use super::numbers::Block;
 
 /// Where a clause stands.
 #[derive(Clone, Copy)]

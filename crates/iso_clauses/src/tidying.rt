@@ -6,8 +6,9 @@ ghost use Rattle.iso_clauses.specs.Slots.{clause_at, IsCounted, Cleans, cleaned}
 ghost use Rattle.iso_clauses.specs.Kept.{IsKept, Tidies};
 ghost use Rattle.iso_clauses.specs.declared.slots.Label.{Label};
 
-use super::blocks::{Block, Entry};
+use super::blocks::Entry;
 use super::ids::ClauseId;
+use super::numbers::Block;
 use super::slots::{Slot, is_given};
 use std::alloc::{AllocError, Global};
 
@@ -68,7 +69,7 @@ fn thinned<C>(
 {
     let front = there(alloc, slots, removals, block.front())?;
     let back = there(alloc, slots, removals, block.back())?;
-    Ok(Block::of(front, back))
+    Block::of(front, back)
 }
 
 /// Counts a removal for the procedure at this place, and gives it a block of the clauses that are there still once

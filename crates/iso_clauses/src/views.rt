@@ -7,8 +7,9 @@ ghost use Rattle.iso_clauses.specs.Slots.{given, value_at};
 ghost use Rattle.iso_clauses.specs.Stepping.{Steps, first_number, behind};
 ghost use Rattle.iso_clauses.specs.Kept.{Giving, view_now};
 
-use super::blocks::{Block, Entry};
+use super::blocks::Entry;
 use super::ids::ClauseId;
+use super::numbers::Block;
 use super::slots::{Slot, is_given};
 
 /// The clauses of a procedure at the making of the view that it has still to give.

@@ -139,15 +139,6 @@ module _ {C : Type 0} where
         stand = behind_stand slots (usable slots key all) (offers_stand slots r entries key (view_now place r e) (usable slots key all) (record { all = all; gives = gives; are = refl }));
       }
 
-  -- the same numbers are gone through
-  pub steps_same : (slots : List (Slot C)) (key : Option FirstKey) (made r start first : ℕ) (numbers same : List ℕ) (o : Option ℕ) (next : ℕ) → made ≡ r → start ≡ first → numbers ≡ same
-      → Steps (usable slots key (given slots made (drop start numbers))) o (usable slots key (given slots made (drop next numbers)))
-      → Steps (usable slots key (given slots r (drop first same))) o (usable slots key (given slots r (drop next same)))
-  steps_same slots key made r start first numbers same o next is_made is_start is_same steps =
-      subst (λ ns. Steps (usable slots key (given slots r (drop first ns))) o (usable slots key (given slots r (drop next ns)))) is_same
-      (subst (λ k. Steps (usable slots key (given slots r (drop k numbers))) o (usable slots key (given slots r (drop next numbers)))) is_start
-      (subst (λ q. Steps (usable slots key (given slots q (drop start numbers))) o (usable slots key (given slots q (drop next numbers)))) is_made steps))
-
   -- each number of a procedure's list is that of a clause that was added
   pub numbers_within : (slots : List (Slot C)) (r size : ℕ) (entries : List Kept) (place : ℕ) (e : Kept) → IsKept procedure_of slots r size entries → slice_get entries place ≡ Some e → e.current.front ≡ []
       → (numbers : List ℕ) → numbers ≡ e.current.back → All (λ n. n < length slots) numbers

@@ -10,3 +10,4 @@ pub mod NumberLemmas
 pub mod CarryLemmas
 pub mod KeyedLemmas
 pub mod BeginLemmas
+pub mod TailLemmas

@@ -7,3 +7,4 @@ pub mod Fits
 pub mod Parts
 pub mod Keyed
 pub mod Presents
+pub mod Tails

@@ -254,30 +254,34 @@ impl<C: Drop> Db<C> {
         self.take_first(self.whole_view(place, key, view), later)
     }
 
-    /// Begins with a view of all clauses, as `begin` does, where all were added at the end: their numbers are gone
-    /// through at once.
+    /// Begins with a view of all clauses, as `begin` does, where all were added at the end: these numbers, which are
+    /// gone through at once.
     #[inline(always)]
     fn begin_short(
         &self,
         place: usize,
+        numbers: &[ClauseId],
         key: Option<FirstKey>,
         later: &mut KeyedView,
     ) -> Option<ClauseId>
         requires place { place < length (contents self.now).procedures }
         requires at_end { (e : Kept) → slice_get self.now.entries.items place ≡ Some e → e.current.front ≡ [] }
+        requires numbers { (e : Kept) → slice_get self.now.entries.items place ≡ Some e
+            → numbers.now ≡ e.current.back }
         requires nothing { remaining_keyed later.old ≡ 0 }
         ensures begins { Begins self.now (filter (λ c. fits key (key_in self.now c.number))
             (clauses_at (contents self.now) place)) result later.new }
     {
         let entry = &self.entries[place];
-        let numbers = entry.current().back();
-        let view = view_of(entry, place, self.removals);
-        let (first, start) = next_usable(&self.slots, numbers, key, view.made, view.next);
+        let numbers = &numbers[entry.first()..];
+        let (first, others) = next_usable(&self.slots, numbers, key, &self.removals);
         if first.is_none() {
             return None;
         }
-        let (second, next) = next_usable(&self.slots, numbers, key, view.made, start);
+        let (second, rest) = next_usable(&self.slots, others, key, &self.removals);
         if second.is_some() {
+            let view = view_of(entry, place, self.removals);
+            let next = view.end - rest.len();
             *later = whole_behind(key, second, View { next, ..view });
         }
         first
@@ -304,8 +308,8 @@ impl<C: Drop> Db<C> {
         if self.kind(place).is_none() {
             return Err(DbFault::Unknown);
         }
-        if self.entries[place].is_short_at_end() {
-            return Ok(self.begin_short(place, key, later));
+        if let Some(numbers) = self.entries[place].few_at_end() {
+            return Ok(self.begin_short(place, numbers, key, later));
         }
         Ok(self.begin_long(place, key, later))
     }

@@ -5,9 +5,10 @@ ghost use Rattle.std.specs.List.{All};
 ghost use Rattle.iso_clauses.specs.Clauses.{Clause};
 ghost use Rattle.iso_clauses.specs.Stepping.{Steps, first_number, behind};
 ghost use Rattle.iso_clauses.specs.Orders.{comes_before};
-ghost use Rattle.iso_clauses.specs.Slots.{given, is_front, key_at};
+ghost use Rattle.iso_clauses.specs.Slots.{given, given_by, is_front, key_at};
 ghost use Rattle.iso_clauses.specs.Fits.{fits};
 ghost use Rattle.iso_db.specs.Keyed.{Offers, Leads, is_own_first, remaining_ahead, remaining_keyed, usable};
+ghost use Rattle.iso_db.specs.Tails.{IsTail};
 
 use iso_clauses::{ClauseId, Entry, FirstKey, Slot, View, fits, is_front, is_there, next_from};
 
@@ -125,31 +126,38 @@ fn next_fitting<C>(
     None
 }
 
-/// The next of these numbers, from the position `start` on, whose clause a view gives that was made after so many
-/// removals, and that a call with this key may use; and the position behind it.
+/// Whether a view that was made after so many removals gives the clause of this slot, if its block has it. The number
+/// of removals is read for a removed clause alone.
 #[inline(always)]
-pub(crate) fn next_usable<C>(
-    slots: &Vec<Slot<C>>,
-    numbers: &[ClauseId],
-    key: Option<FirstKey>,
-    made: usize,
-    start: usize,
-) -> (Option<ClauseId>, usize)
-    requires { All (λ n. n < length slots.now.items) numbers.now }
-    ensures steps { Steps (usable slots.now.items key (given slots.now.items made (drop start numbers.now))) result.0
-        (usable slots.now.items key (given slots.now.items made (drop result.1 numbers.now))) }
-    ensures later { start ≤ result.1 }
+fn gives<C>(slot: &Slot<C>, removals: &usize) -> bool
+    ensures { (number : ℕ) → result ≡ is_some (given_by removals.now number slot.now) }
 {
-    let mut next = start;
-    while next < numbers.len() {
-        let id = numbers[next];
-        next += 1;
+    slot.value.is_some() && (slot.died.is_none() || is_there(slot, *removals))
+}
+
+/// The next of these numbers whose clause a view gives that was made after so many removals, and that a call with this
+/// key may use; and the numbers behind it.
+#[inline(always)]
+pub(crate) fn next_usable<'a, C>(
+    slots: &Vec<Slot<C>>,
+    numbers: &'a [ClauseId],
+    key: Option<FirstKey>,
+    removals: &usize,
+) -> (Option<ClauseId>, &'a [ClauseId])
+    requires { All (λ n. n < length slots.now.items) numbers.now }
+    ensures steps { Steps (usable slots.now.items key (given slots.now.items removals.now numbers.now)) result.0
+        (usable slots.now.items key (given slots.now.items removals.now result.1.now)) }
+    ensures behind { IsTail numbers.now result.1.now }
+{
+    let mut rest = numbers;
+    while let [id, others @ ..] = rest {
+        rest = others;
         let slot = &slots[id.number()];
-        if is_there(slot, made) && fits(key, slot.label.key) {
-            return (Some(id), next);
+        if gives(slot, removals) && fits(key, slot.label.key) {
+            return (Some(*id), rest);
         }
     }
-    (None, next)
+    (None, rest)
 }
 
 /// A view of a whole procedure, for a call with this key, whose next clause was taken ahead.

@@ -9,8 +9,19 @@ ghost use Rattle.iso_environments.specs.Stacks.{stack};
 use super::words::Words;
 use iso_frames::{Frame, Rest, top_of};
 
+/// Gives up all frames but the lowest, so many: one by one, since mostly it is none or one.
+#[inline(always)]
+fn keep_lowest(frames: &mut Vec<Frame>, count: usize)
+    ensures { frames.new.items ≡ take count frames.old.items }
+{
+    while frames.len() > count {
+        frames.pop();
+    }
+}
+
 /// Gives up the frames and words that are neither among the first ones, so many, nor needed for the list from the place
 /// on.
+#[inline(always)]
 pub fn give_up<W: Copy>(
     frames: &mut Vec<Frame>,
     words: &mut Words<W>,
@@ -32,6 +43,6 @@ pub fn give_up<W: Copy>(
         None => 0,
     };
     let top = top_of(frames.as_slice(), behind);
-    frames.truncate(kept_frames.max(needed));
+    keep_lowest(frames, kept_frames.max(needed));
     words.truncate(kept_words.max(top));
 }

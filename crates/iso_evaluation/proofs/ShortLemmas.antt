@@ -88,6 +88,16 @@ pub operand_there : (many count : ℕ) (steps : List Step) (i : ℕ) (o : Operan
 operand_there many count steps i o b all are =
     all_at (IsStepThere many count) steps i (step.Value o) all (omega (arith, are.0)) (sym (get_or_from_slice_get steps i (step.Value o) (step.Value o) are.1))
 
+-- what four steps speak of is there
+pub four_there : (many count : ℕ) (steps : List Step) (a b c d : Step) → steps ≡ a ∷ b ∷ c ∷ d ∷ [] → All (IsStepThere many count) steps
+    → IsStepThere many count a × IsStepThere many count b × IsStepThere many count c × IsStepThere many count d
+four_there many count steps a b c d is h =
+    let P = IsStepThere many count in
+    let all = subst (All P) is h in
+    let behind = All-tail P a (b ∷ c ∷ d ∷ []) all in
+    let last = All-tail P b (c ∷ d ∷ []) behind in
+    (All-head P a (b ∷ c ∷ d ∷ []) all, All-head P b (c ∷ d ∷ []) behind, All-head P c (d ∷ []) last, All-head P d [] (All-tail P c (d ∷ []) last))
+
 -- ---- a comparison
 
 -- it is one of the two values that were left

@@ -1,6 +1,6 @@
 -- What steps leave: where no stack is needed for it, and from the values on the stack.
 use Rattle.std.proofs.Common.{◌≡◌, ℕ, ℤ, List, [], ◌∷◌, length, reverse, Bool, false, Option, Some, None, Ok, Err, refl, sym, ap, subst, ◌∙◌}
-use Rattle.std.specs.Prelude.{Result, IsErrAnd, IfErr}
+use Rattle.std.specs.Prelude.{Result, IsErrAnd, IfErr, IfSome}
 use Rattle.std.specs.List.{AllZip}
 use Rattle.std.proofs.lemmas.List.{length-reverse}
 use Rattle.iso_model.specs.Terms.Trees.{Tree}
@@ -36,11 +36,11 @@ on_equal : (v : Value) (f g : ℤ → Result (List ℤ) Tree) → ((z : ℤ) →
 on_equal (Ok z) f g same = same z
 on_equal (Err error) f g same = refl
 
-on_twice : (v w : Value) (does : ℤ → ℤ → Value)
-    → on_value v (λ x. on_value w (λ y. on_value (does x y) (λ z. Ok (z ∷ [])))) ≡ on_value (on_both v w does) (λ z. Ok (z ∷ []))
-on_twice (Ok x) (Ok y) does = refl
-on_twice (Ok x) (Err error) does = refl
-on_twice (Err error) w does = refl
+on_twice : (v w : Value) (does : ℤ → ℤ → Value) (f : ℤ → Result (List ℤ) Tree)
+    → on_value v (λ x. on_value w (λ y. on_value (does x y) f)) ≡ on_value (on_both v w does) f
+on_twice (Ok x) (Ok y) does f = refl
+on_twice (Ok x) (Err error) does f = refl
+on_twice (Err error) w does f = refl
 
 module _ (names : List (List ℕ)) (next : ℕ) (s : Subst) where
   -- a value, and others behind it
@@ -73,7 +73,59 @@ module _ (names : List (List ℕ)) (next : ℕ) (s : Subst) where
       ∙ on_equal (operand_value names next s l) _ _
       (λ x. value_then k r (m ∷ []) (x ∷ []) h.1.0
       ∙ on_equal (operand_value names next s r) _ _ (λ y. two_step names next s m b (y ∷ x ∷ []) h.1.1.0))
-      ∙ on_twice (operand_value names next s l) (operand_value names next s r) (does_binary b)
+      ∙ on_twice (operand_value names next s l) (operand_value names next s r) (does_binary b) (λ z. Ok (z ∷ []))
+
+  -- its value, where it has one
+  pub operation_leaves : (ks : List expressions.Step) (l r : Operand) (b : Binary)
+      → AllZip (IsStep names) ks (step.Value l ∷ step.Value r ∷ step.Two b ∷ []) → (found : Option ℤ)
+      → IfSome found (λ z. on_both (operand_value names next s l) (operand_value names next s r) (does_binary b) ≡ Ok z)
+      → IfSome found (λ z. done next s ks [] ≡ Ok (z ∷ []))
+  operation_leaves ks l r b h None is = tt
+  operation_leaves ks l r b h (Some z) is = operation_done ks l r b h ∙ ap (λ v. on_value v (λ y. Ok (y ∷ []))) is
+
+  -- an operation on the values of two operands, and others behind it
+  operation_then : (j k m : expressions.Step) (l r : Operand) (b : Binary) (ks : List expressions.Step) (zs : List ℤ)
+      → IsStep names j (step.Value l) → IsStep names k (step.Value r) → IsStep names m (step.Two b)
+      → done next s (j ∷ k ∷ m ∷ ks) zs
+      ≡ on_value (on_both (operand_value names next s l) (operand_value names next s r) (does_binary b)) (λ z. done next s ks (z ∷ zs))
+  operation_then j k m l r b ks zs first second third =
+      value_then j l (k ∷ m ∷ ks) zs first
+      ∙ on_equal (operand_value names next s l) _ _
+      (λ x. value_then k r (m ∷ ks) (x ∷ zs) second
+      ∙ on_equal (operand_value names next s r) _ _
+      (λ y. step_first next s m ks (y ∷ x ∷ zs)
+      ∙ ap (λ o. and_then o (done next s ks)) (two_step names next s m b (y ∷ x ∷ zs) third)
+      ∙ sym (value_first next s (does_binary b x y) ks zs)))
+      ∙ on_twice (operand_value names next s l) (operand_value names next s r) (does_binary b) (λ z. done next s ks (z ∷ zs))
+
+  -- the value of an operand, and an operation
+  pub operand_and_operation : (ks : List expressions.Step) (o l r : Operand) (b : Binary)
+      → AllZip (IsStep names) ks (step.Value o ∷ step.Value l ∷ step.Value r ∷ step.Two b ∷ [])
+      → done next s ks []
+      ≡ values_of_both (operand_value names next s o) (on_both (operand_value names next s l) (operand_value names next s r) (does_binary b))
+  operand_and_operation [] o l r b h = absurd h
+  operand_and_operation (i ∷ []) o l r b h = absurd h.1
+  operand_and_operation (i ∷ j ∷ []) o l r b h = absurd h.1.1
+  operand_and_operation (i ∷ j ∷ k ∷ []) o l r b h = absurd h.1.1.1
+  operand_and_operation (i ∷ j ∷ k ∷ m ∷ n ∷ ks) o l r b h = absurd h.1.1.1.1
+  operand_and_operation (i ∷ j ∷ k ∷ m ∷ []) o l r b h =
+      value_then i o (j ∷ k ∷ m ∷ []) [] h.0
+      ∙ on_equal (operand_value names next s o) _ _ (λ x. operation_then j k m l r b [] (x ∷ []) h.1.0 h.1.1.0 h.1.1.1.0)
+
+  -- an operation, and the value of an operand
+  pub operation_and_operand : (ks : List expressions.Step) (l r : Operand) (b : Binary) (o : Operand)
+      → AllZip (IsStep names) ks (step.Value l ∷ step.Value r ∷ step.Two b ∷ step.Value o ∷ [])
+      → done next s ks []
+      ≡ values_of_both (on_both (operand_value names next s l) (operand_value names next s r) (does_binary b)) (operand_value names next s o)
+  operation_and_operand [] l r b o h = absurd h
+  operation_and_operand (i ∷ []) l r b o h = absurd h.1
+  operation_and_operand (i ∷ j ∷ []) l r b o h = absurd h.1.1
+  operation_and_operand (i ∷ j ∷ k ∷ []) l r b o h = absurd h.1.1.1
+  operation_and_operand (i ∷ j ∷ k ∷ m ∷ n ∷ ks) l r b o h = absurd h.1.1.1.1
+  operation_and_operand (i ∷ j ∷ k ∷ m ∷ []) l r b o h =
+      operation_then i j k l r b (m ∷ []) [] h.0 h.1.0 h.1.1.0
+      ∙ on_equal (on_both (operand_value names next s l) (operand_value names next s r) (does_binary b)) _ _
+      (λ z. value_step names next s m o (z ∷ []) h.1.1.1.0)
 
 -- ---- one value
 

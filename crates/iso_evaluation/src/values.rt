@@ -23,7 +23,7 @@ use std::alloc::Global;
 
 /// The operands of an operation on both, which are all that the steps are; none where they are others.
 #[inline(always)]
-fn operands_of_operation(steps: &[Step]) -> Option<(&Operand, &Operand, Binary)>
+pub(crate) fn operands_of_operation(steps: &[Step]) -> Option<(&Operand, &Operand, Binary)>
     ensures { IfSome result (λ r. steps.now ≡ step.Value r.0.now ∷ step.Value r.1.now ∷ step.Two r.2 ∷ []) }
 {
     match steps {
@@ -102,7 +102,7 @@ pub(crate) fn value_left<S: Store>(
 
 /// The operands where the steps are the values of two; none where they are others.
 #[inline(always)]
-fn operands_alone(steps: &[Step]) -> Option<(&Operand, &Operand)>
+pub(crate) fn operands_alone(steps: &[Step]) -> Option<(&Operand, &Operand)>
     ensures { IfSome result (λ r. steps.now ≡ step.Value r.0.now ∷ step.Value r.1.now ∷ []) }
 {
     match steps {

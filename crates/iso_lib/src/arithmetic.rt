@@ -37,6 +37,7 @@ fn refused(alloc: Global, refusal: Refusal, name: &str, arity: usize) -> Result<
 }
 
 /// The error of an expression that has no value, raised by this procedure (7.9.2); or memory was refused.
+#[inline(never)]
 pub fn raised<S: Store>(
     alloc: Global,
     store: &S,
@@ -63,6 +64,7 @@ pub fn raised<S: Store>(
 }
 
 /// The value of the expression. The errors: it has none, and this procedure raises its error, or memory was refused.
+#[inline(always)]
 fn evaluate<S: Store>(
     alloc: Global,
     store: &S,
@@ -83,6 +85,7 @@ fn evaluate<S: Store>(
 }
 
 /// `is/2` (8.6.1). The errors: one is raised, the store is full, or memory was refused.
+#[inline(never)]
 pub(crate) fn is<S: Store>(
     alloc: Global,
     store: &mut S,
@@ -134,6 +137,7 @@ pub fn holds(comparison: Comparison, left: i128, right: i128) -> bool
 
 /// A comparison of two values (8.7), of which the left one is found first. The errors: one is raised, or memory was
 /// refused.
+#[inline(never)]
 pub(crate) fn compare<S: Store>(
     alloc: Global,
     store: &S,

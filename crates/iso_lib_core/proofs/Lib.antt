@@ -1,3 +1,4 @@
+pub mod ClashLemmas
 pub mod CopyLemmas
 pub mod ErrorLemmas
 pub mod ListLemmas

@@ -1,10 +1,12 @@
 //! Copies of terms, with new variables.
-ghost use Rattle.std.specs.Prelude.{◌≡◌, ◌+◌, ◌<◌, ◌≤◌, ◌^◌, IfOk, OnOk, Err, true, length};
+ghost use Rattle.std.specs.Prelude.{◌≡◌, ◌+◌, ◌<◌, ◌≤◌, ◌^◌, IfOk, OnOk, Err, true, false, length};
 ghost use Rattle.std.specs.List.{All};
 ghost use Rattle.iso_model.specs.Terms.Sizes.{size};
 ghost use Rattle.iso_model.specs.Terms.TermOf.{term_of};
 ghost use Rattle.iso_model.specs.Terms.Trees.{arities_fit, Tree};
 ghost use Rattle.iso_model.specs.Terms.Copies.{copy_from};
+ghost use Rattle.iso_model.specs.Terms.Substitutions.{Subst, apply};
+ghost use Rattle.iso_model.specs.Terms.Unifiers.{NeverEqual};
 ghost use Rattle.iso_model.specs.Terms.Variables.{variable_count};
 ghost use Rattle.iso_model.specs.Search.Library.{library_answer};
 ghost use Rattle.iso_model.specs.declared.kinds.Library.TheVariants as row;
@@ -16,7 +18,7 @@ ghost use Rattle.iso_lib_core.specs.Replies.{IsReply, MeetsCopy, most_copied};
 
 use super::outcomes::{Fault, Reply, tested};
 use iso_model::{NoMemory, Numbering, Term};
-use iso_store_core::{Store, StoreFault};
+use iso_store_core::{Shape, Store, StoreFault};
 use std::alloc::Global;
 
 /// The most variables of a term that is copied for a goal; one with more is refused as memory is.
@@ -75,6 +77,35 @@ pub(crate) fn copied_few<S: Store>(
     copied(store, term)
 }
 
+/// Whether the term that the word stands for may unify with a copy of the other one: one of them is a variable, or they
+/// are the same integer or atom, or compounds of one name with as many arguments.
+fn may_meet<S: Store>(store: &S, word: S::Word, term: &Term) -> bool
+    requires { Holds (S.present store.now) word }
+    ensures { result ≡ false → (r s : Subst)
+        → NeverEqual (meaning (S.present store.now) word) (apply s (apply r (term_of term.now))) }
+{
+    match term {
+        Term::Var(_) => true,
+        Term::Int(value) => match store.shape(word) {
+            Shape::Var(_) => true,
+            Shape::Int(own) => own == *value,
+            Shape::Atom(_) | Shape::Compound(_, _) => false,
+        },
+        Term::Atom(name) => match store.shape(word) {
+            Shape::Var(_) => true,
+            Shape::Atom(own) => store.text(own) == name.as_str(),
+            Shape::Int(_) | Shape::Compound(_, _) => false,
+        },
+        Term::Compound(name, arguments) => match store.shape(word) {
+            Shape::Var(_) => true,
+            Shape::Compound(own, count) => {
+                count == arguments.len() && store.text(own) == name.as_str()
+            }
+            Shape::Int(_) | Shape::Atom(_) => false,
+        },
+    }
+}
+
 /// Whether the term that the word stands for unifies with a copy of the other one, which has new variables; then
 /// their unifier is bound. The errors: the store is full, or memory was refused, as it is for a term of more than
 /// 536,870,912 variables.
@@ -94,6 +125,9 @@ pub fn unify_copy<S: Store>(
         (copy_cells (term_of term.now)) (variable_count (term_of term.now)) }
     ensures rest { Retains S.Store store.old store.new }
 {
+    if !may_meet(store, word, term) {
+        return Ok(false);
+    }
     if count_variables(alloc, term)? > MOST_VARIABLES {
         return Err(StoreFault::NoMemory);
     }

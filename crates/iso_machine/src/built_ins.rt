@@ -11,6 +11,7 @@ ghost use Rattle.iso_machine.specs.Came.{CameTo, went_on};
 ghost use Rattle.iso_machine.specs.Engines.{Engine, framed};
 ghost use Rattle.iso_machine.specs.GoalCalls.{IsCallPut, goal_put};
 
+use super::coming::go_on;
 use super::framed::Framed;
 use iso_cells::Cells;
 use iso_environments::Put;
@@ -47,7 +48,7 @@ fn go_on_from<S: Cells + Drop>(
 {
     match answered {
         Ok(Reply::Done) => {
-            search.now = search.coming(behind);
+            go_on(&mut search.now, &search.lists, behind);
             Ok(())
         }
         Ok(Reply::Fail) => {

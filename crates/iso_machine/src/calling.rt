@@ -52,6 +52,7 @@ pub(crate) enum Gone {
 }
 
 /// How many frames and words the newest choice keeps; none where no choice stands.
+#[inline(always)]
 fn kept_by_newest<S: Cells + Drop>(search: &Search<S, Framed<S>>) -> (usize, usize)
     ensures frames { result.0 ≡ frames_kept search.entry.now.choices.items }
     ensures words { result.1 ≡ words_kept search.entry.now.choices.items }
@@ -63,6 +64,7 @@ fn kept_by_newest<S: Cells + Drop>(search: &Search<S, Framed<S>>) -> (usize, usi
 }
 
 /// Gives up the frames and words that neither the newest choice nor the list from the place on has.
+#[inline(always)]
 pub(crate) fn give_up<S: Cells + Drop>(search: &mut Search<S, Framed<S>>, behind: Option<Rest>)
     requires { (s : State) × IsAhead S.Store (framed S.atom_word) search.old s behind }
     ensures ahead { (s : State) → IsAhead S.Store (framed S.atom_word) search.old s behind
@@ -125,7 +127,48 @@ pub(crate) fn take_arguments<S: Cells>(
 
 /// Keeps the later clauses of the call of this name, which the view gives, as a choice where there are any (7.7.8), and
 /// one more may come then: true. The choice keeps the arguments that were put. The error is that memory was refused.
+#[inline(always)]
 fn push_later<S: Cells + Drop>(
+    search: &mut Search<S, Framed<S>>,
+    later: &mut KeyedView,
+    put: &Put,
+) -> Result<bool, AllocError>
+    requires room { (first : ℕ) (s : State) (goal : Tree) (c : databases.Clause) (cs : List databases.Clause)
+        (behind : List Member) → CallsPut S.Store S.atom_word search.old first later.old
+        put.now.name put.now.behind s goal c cs behind
+        → 0 < length cs → length search.old.choices.items < search.old.limit }
+    requires calls { (first : ℕ) × (s : State) × (goal : Tree) × (c : databases.Clause) × (cs : List databases.Clause)
+        × (behind : List Member) × CallsPut S.Store S.atom_word search.old first later.old
+        put.now.name put.now.behind s goal c cs behind }
+    ensures calls { (first : ℕ) (s : State) (goal : Tree) (c : databases.Clause) (cs : List databases.Clause)
+        (behind : List Member) → CallsPut S.Store S.atom_word search.old first later.old
+        put.now.name put.now.behind s goal c cs behind
+        → result ≡ Ok true → CallsPut S.Store S.atom_word search.new first later.old
+        put.now.name put.now.behind (with_others goal cs behind s) goal c cs behind }
+    ensures kept { (first : ℕ) (s : State) (goal : Tree) (c : databases.Clause) (cs : List databases.Clause)
+        (behind : List Member) → CallsPut S.Store S.atom_word search.old first later.old
+        put.now.name put.now.behind s goal c cs behind
+        → OnErr result (Remains S.Store (framed S.atom_word) search.new s) }
+    ensures room { result ≢ Ok false }
+    ensures costs { result ≡ Ok true → kept_cost (framed S.atom_word) search.new
+        ≤ kept_cost (framed S.atom_word) search.old + left_cost most (cost_at search.old.lists put.now.behind) }
+    ensures same { search.new ≡ record search.old {
+      store = search.new.store;
+      choices = search.new.choices;
+      lists
+          = record search.old.lists { words = search.new.lists.words };
+    } }
+    ensures stays { Stays S.Store search.old search.new }
+{
+    if !has_left(&search.db, later) {
+        return Ok(true);
+    }
+    push_left(search, later, put)
+}
+
+/// The same, by a call, since most calls leave no clause.
+#[inline(never)]
+fn push_left<S: Cells + Drop>(
     search: &mut Search<S, Framed<S>>,
     later: &mut KeyedView,
     put: &Put,
@@ -183,6 +226,7 @@ fn may_go_last<S: Cells + Drop>(search: &Search<S, Framed<S>>, last: bool) -> bo
 /// Enters the clause for the call of this name whose arguments were put, before the list from this place on, with this
 /// cut mark; where its head doesn't unify with the call the engine fails next (7.7.10). It makes no frame where it is
 /// said to be the last and its body is one goal of a procedure. The errors: the store is full, or memory was refused.
+#[inline(never)]
 pub(crate) fn enter_clause<S: Cells + Drop>(
     search: &mut Search<S, Framed<S>>,
     clause: ClauseId,
@@ -222,8 +266,7 @@ pub(crate) fn enter_clause<S: Cells + Drop>(
         &mut search.store,
         &mut search.lists,
         entered,
-        put.name,
-        put.behind,
+        put,
         mark,
         last,
     )? {
@@ -236,7 +279,33 @@ pub(crate) fn enter_clause<S: Cells + Drop>(
 
 /// Whether a choice or a frame is to come for the call, of which this clause comes first and then those that the view
 /// gives, and none may come any more.
+#[inline(always)]
 fn lacks_room<S: Cells + Drop>(
+    search: &Search<S, Framed<S>>,
+    clause: ClauseId,
+    later: &KeyedView,
+    put: &Put,
+    last: bool,
+) -> bool
+    requires { (s : State) × (goal : Tree) × (c : databases.Clause) × (cs : List databases.Clause)
+        × (behind : List Member) × (name : ℕ) × CallsPut S.Store S.atom_word search.now clause later.now
+        name put.now.behind s goal c cs behind }
+    ensures beyond { result ≡ true → IsBeyond S.Store S.atom_word search.entry.now put.now.behind }
+    ensures room { (first : ℕ) (s : State) (goal : Tree) (c : databases.Clause) (cs : List databases.Clause)
+        (behind : List Member) (name : ℕ) → CallsPut S.Store S.atom_word search.entry.now first later.now
+        name put.now.behind s goal c cs behind
+        → result ≡ false → 0 < length cs → length search.entry.now.choices.items < search.entry.now.limit }
+{
+    if search.choices.len() + search.lists.frames.len() < search.limit as usize {
+        return false;
+    }
+    lacks_more(search, clause, later, put, last)
+}
+
+/// The same, where frames and choices are many.
+#[cold]
+#[inline(never)]
+fn lacks_more<S: Cells + Drop>(
     search: &Search<S, Framed<S>>,
     clause: ClauseId,
     later: &KeyedView,
@@ -265,6 +334,7 @@ fn lacks_room<S: Cells + Drop>(
 /// makes: this clause is entered, those behind it, which the view gives, are one choice (7.7.7). It makes no frame
 /// where it is said to be the last and the clause's body is one goal of a procedure. The errors: the store is full, or
 /// memory was refused.
+#[inline(always)]
 pub(crate) fn call<S: Cells + Drop>(
     search: &mut Search<S, Framed<S>>,
     clause: ClauseId,

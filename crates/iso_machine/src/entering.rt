@@ -29,7 +29,7 @@ ghost use Rattle.iso_machine.specs.Lists.{IsList, IsPut, cost_at, extent_of, pen
 use super::framed::Framed;
 use iso_atoms::Atom;
 use iso_cells::Cells;
-use iso_environments::{is_fact, meet_clause, push_clause};
+use iso_environments::{Put, is_fact, meet_clause, push_clause};
 use iso_frames::Rest;
 use iso_instructions::{Code, Form};
 use iso_program::clauses::Clause;
@@ -81,13 +81,13 @@ fn is_called(code: &Code, name: Atom, count: usize) -> bool
     code.arity == count && code.name == name
 }
 
-/// Where the list begins behind the head of a clause that was entered with this cut mark, before the list from `rest`
-/// on: at a frame of its own where its body is a goal, unless it is said to be the last and its body is one goal of a
-/// procedure. Its environment is the last of the words. The error is that memory was refused.
+/// Where the list begins behind the head of a clause that was entered for this call with this cut mark: at a frame of
+/// its own where its body is a goal, unless it is said to be the last and its body is one goal of a procedure. Its
+/// environment is the last of the words. The error is that memory was refused.
 fn begin<S: Cells>(
     lists: &mut Framed<S>,
     code: &Rc<Code>,
-    rest: Option<Rest>,
+    put: &Put,
     mark: usize,
     last: bool,
 ) -> Result<Entered, AllocError>
@@ -96,65 +96,70 @@ fn begin<S: Cells>(
         (below environment : List S.Word) (ms : List Member)
         → lists.old.words.items ≡ below ++ environment
         → HasEnvironment S.atom_word p names code.now.value c environment
-        → Chain S.atom_word p (stack lists.old.nodes.items lists.old.frames.items below) rest ms
+        → Chain S.atom_word p (stack lists.old.nodes.items lists.old.frames.items below) put.now.behind ms
         → IfOk result (λ e. IfAt e (λ place. IsList S.atom_word p lists.new (extent_of lists.new) place
         (clause_members p environment mark c ++ ms))) }
     ensures cost { IfOk result (λ e. IfAt e (λ place. cost_at lists.new place
-        ≤ body_cost most (cost_at lists.old rest))) }
+        ≤ body_cost most (cost_at lists.old put.now.behind))) }
     ensures pending { IfOk result (λ e. IfAt e (λ place. pending_at lists.new place
-        ≤ cells_from code.now.value (length code.now.value.body.items - 1) + pending_at lists.old rest)) }
+        ≤ cells_from code.now.value (length code.now.value.body.items - 1) + pending_at lists.old put.now.behind)) }
     ensures frames { Adds lists.old.frames.items lists.new.frames.items }
     ensures same { lists.new ≡ record lists.old { frames = lists.new.frames } }
     ensures met { result ≢ Ok Entered.Missed }
     ensures last { result ≡ Ok Entered.Last → (last ≡ true) × (lists.new ≡ lists.old) × CallsAlone code.now.value }
 {
     if is_fact(code.as_ref()) {
-        return Ok(Entered::At(rest));
+        return Ok(Entered::At(put.behind));
     }
     if last && is_one_call(code.as_ref()) {
         return Ok(Entered::Last);
     }
-    let place = push_clause(&mut lists.frames, lists.words.as_slice(), code, mark, rest)?;
+    let place = push_clause(
+        &mut lists.frames,
+        lists.words.as_slice(),
+        code,
+        mark,
+        put.behind,
+    )?;
     Ok(Entered::At(Some(place)))
 }
 
-/// Enters the clause for the call of this name whose arguments were put, before the list from `rest` on, with this cut
-/// mark (7.7.10): without a frame where it is said to be the last and its body is one goal of a procedure. The caller
-/// keeps the next number below 2^63. The errors: the store is full, or memory was refused.
+/// Enters the clause for this call, whose arguments were put, with this cut mark (7.7.10): without a frame where it is
+/// said to be the last and its body is one goal of a procedure. The caller keeps the next number below 2^63. The
+/// errors: the store is full, or memory was refused.
 pub(crate) fn enter<S: Cells>(
     store: &mut S,
     lists: &mut Framed<S>,
     clause: &Clause<OwnOf<S, Framed<S>>>,
-    name: Atom,
-    rest: Option<Rest>,
+    put: &Put,
     mark: usize,
     last: bool,
 ) -> Result<Entered, StoreFault>
     requires { (c : databases.Clause) × (goal : Tree) × (ms : List Member)
         × IsClause (own_of (framed S.atom_word)) (S.names store.old) clause.now c
-        × IsPut S.atom_word (S.present store.old) lists.old name goal
-        × IsList S.atom_word (S.present store.old) lists.old (extent_of lists.old) rest ms
+        × IsPut S.atom_word (S.present store.old) lists.old put.now.name goal
+        × IsList S.atom_word (S.present store.old) lists.old (extent_of lists.old) put.now.behind ms
         × ((S.present store.old).next + clause.now.variables < 2 ^ 63) }
     ensures comes { (c : databases.Clause) (goal : Tree) (ms : List Member)
         → IsClause (own_of (framed S.atom_word)) (S.names store.old) clause.now c
-        → IsPut S.atom_word (S.present store.old) lists.old name goal
-        → IsList S.atom_word (S.present store.old) lists.old (extent_of lists.old) rest ms
+        → IsPut S.atom_word (S.present store.old) lists.old put.now.name goal
+        → IsList S.atom_word (S.present store.old) lists.old (extent_of lists.old) put.now.behind ms
         → IfOk result (λ e. Comes S.atom_word (S.present store.old) (S.present store.new) goal c mark ms lists.new e) }
     ensures cost { IfOk result (λ e. IfAt e (λ place. cost_at lists.new place
-        ≤ body_cost most (cost_at lists.old rest))) }
+        ≤ body_cost most (cost_at lists.old put.now.behind))) }
     ensures pending { (c : databases.Clause) → IsClause (own_of (framed S.atom_word)) (S.names store.old) clause.now c
         → IfOk result (λ e. IfAt e (λ place. pending_at lists.new place
-        ≤ 2 * body_size c.body + pending_at lists.old rest)) }
+        ≤ 2 * body_size c.body + pending_at lists.old put.now.behind)) }
     ensures cells { (c : databases.Clause) → IsClause (own_of (framed S.atom_word)) (S.names store.old) clause.now c
         → CountsCells S.Store → Grows (S.present store.old) (S.present store.new)
         (c.variables + arguments_size c.head) c.variables }
     ensures alone { result ≡ Ok Entered.Last → (last ≡ true) × (lists.new.frames ≡ lists.old.frames)
         × CallsAlone clause.now.own.kept.value }
     ensures last { (fs : Vec Frame Global) (c : databases.Clause) (goal : Tree) (ms : List Member)
-        → result ≡ Ok Entered.Last → HasFrame lists.new fs clause.now.own.kept mark rest
+        → result ≡ Ok Entered.Last → HasFrame lists.new fs clause.now.own.kept mark put.now.behind
         → IsClause (own_of (framed S.atom_word)) (S.names store.old) clause.now c
-        → IsPut S.atom_word (S.present store.old) lists.old name goal
-        → IsList S.atom_word (S.present store.old) lists.old (extent_of lists.old) rest ms
+        → IsPut S.atom_word (S.present store.old) lists.old put.now.name goal
+        → IsList S.atom_word (S.present store.old) lists.old (extent_of lists.old) put.now.behind ms
         → Begins S.atom_word (S.present store.old) (S.present store.new) goal c mark ms (with_frames lists.new fs)
         (Some (place_of lists.new)) }
     ensures nodes { lists.new.nodes ≡ lists.old.nodes }
@@ -165,7 +170,7 @@ pub(crate) fn enter<S: Cells>(
 {
     let code = &clause.own.kept;
     let count = lists.arguments.len();
-    if !is_called(code.as_ref(), name, count) {
+    if !is_called(code.as_ref(), put.name, count) {
         return Ok(Entered::Missed);
     }
     let met = meet_clause(
@@ -179,5 +184,5 @@ pub(crate) fn enter<S: Cells>(
     if !met {
         return Ok(Entered::Missed);
     }
-    Ok(begin(lists, code, rest, mark, last)?)
+    Ok(begin(lists, code, put, mark, last)?)
 }

@@ -42,6 +42,7 @@ use iso_store_core::{Store, StoreFault};
 
 /// Takes the step of a call of this name, whose arguments were put, and gives up what the list from the place on
 /// doesn't need.
+#[inline(always)]
 fn make_ready<S: Cells + Drop>(search: &mut Search<S, Framed<S>>, name: Atom, behind: Option<Rest>)
     requires more { search.old.steps ≢ 0 }
     requires name { name < length (S.names search.old.store) }
@@ -69,6 +70,7 @@ fn make_ready<S: Cells + Drop>(search: &mut Search<S, Framed<S>>, name: Atom, be
 
 /// Makes the call of the goal whose arguments were put: this clause is entered, without a frame where it is said to be
 /// the last and its body is one goal of a procedure. The errors: the store is full, or memory was refused.
+#[inline(always)]
 pub(crate) fn go<S: Cells + Drop>(
     search: &mut Search<S, Framed<S>>,
     clause: ClauseId,

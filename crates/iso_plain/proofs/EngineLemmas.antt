@@ -18,7 +18,8 @@ use Rattle.iso_store_core.specs.Retaining.{CountsCells}
 use Rattle.iso_store_core.proofs.RetainLemmas.{grows_most}
 use Rattle.iso_store_core.specs.declared.stores.Store.{Ghosts}
 use Rattle.iso_plain_core.specs.Nodes.{EndsWith, ArePartsOf}
-use Rattle.iso_program.specs.Written.{IsPatternOf, term_in}
+use Rattle.iso_program.specs.Heads.{head_parts, head_term}
+use Rattle.iso_program.specs.Written.{IsPatternOf}
 use Rattle.iso_prep.specs.declared.bodies.Node.{Node}
 use Rattle.iso_search_core.specs.Costs.{now_pending}
 use Rattle.iso_search_core.specs.Fitting.{FitsState}
@@ -45,7 +46,7 @@ use Rattle.iso_plain_core.proofs.EnteringLemmas.{adds_none, placed_body}
 use Rattle.iso_plain_core.proofs.EntryLemmas.{entry_within}
 use Rattle.iso_search.proofs.StoppedLemmas.{base_kept}
 use Rattle.iso_search.proofs.WorldLemmas.{world_on, choices_grown}
-use Rattle.iso_program.proofs.WrittenLemmas.{term_is}
+use Rattle.iso_program.proofs.WrittenLemmas.{head_is}
 use Rattle.iso_search.proofs.AheadLemmas.{engine_place}
 use Rattle.iso_search.proofs.CountedLemmas.{clause_counts}
 use Rattle.iso_search.proofs.Moves.Search.{stands_itself}
@@ -161,8 +162,8 @@ module _ {S W M : Type 0} (g : Ghosts S W M) where
     chain : Chain p (links_of e.lists) rest behind
     chain = whole_chain e.lists (t.calls).ahead.chain
 
-    head_is : term_in (g.names e.store) k.head ≡ c.head
-    head_is = term_is (g.names e.store) k.head c.head t.is.head
+    head_same : head_term (g.names e.store) k ≡ c.head
+    head_same = head_is (g.names e.store) (head_parts k) c.head t.is.head
 
     -- the parts that don't depend on what comes next
     with_next : (doing : Now Link (Option ℕ)) (v : State) → v.world ≡ s.world → v.steps ≡ s.steps → v.stack ≡ s.stack → v.query ≡ s.query → v.built ≡ s.built + clause_size c
@@ -181,26 +182,26 @@ module _ {S W M : Type 0} (g : Ghosts S W M) where
           next = next;
         }
 
-    pub missed_engine : NeverEqual (apply p.substitution (p.term attempt.call)) (apply p.substitution (renamed p.next (term_in (g.names e.store) k.head)))
+    pub missed_engine : NeverEqual (apply p.substitution (p.term attempt.call)) (apply p.substitution (renamed p.next (head_term (g.names e.store) k)))
         → StandsAs g linked (onward e store nodes words now.Failing) (tried_clause call c mark behind s)
     missed_engine never =
         let P : Tree → Subst → ℕ → Tree → Type 0 = λ a r n h. NeverEqual a (apply r (renamed n h)) in
-        let none : P call s.subst s.next c.head = rw (value, ← subst_is, ← next_was, ← head_is) never in
+        let none : P call s.subst s.next c.head = rw (value, ← subst_is, ← next_was, ← head_same) never in
         let is = clause_missed call c mark behind s none in
         subst (λ (v : State). StandsAs g linked (onward e store nodes words now.Failing) v) (sym is)
         (stands_itself g linked (onward e store nodes words now.Failing) _ (with_next now.Failing _ refl refl refl refl refl ([], refl)))
 
-    unifies : (m : Meets p q (p.term attempt.call) (term_in (g.names e.store) k.head) k.variables) → Unifier call (apply s.subst (renamed s.next c.head)) m.unifier
+    unifies : (m : Meets p q (p.term attempt.call) (head_term (g.names e.store) k) k.variables) → Unifier call (apply s.subst (renamed s.next c.head)) m.unifier
     unifies m =
         let P : Tree → Subst → ℕ → Tree → Type 0 = λ a r n h. Unifier a (apply r (renamed n h)) m.unifier in
-        let here : P call s.subst s.next c.head = rw (value, ← subst_is, ← next_was, ← head_is) m.is in
+        let here : P call s.subst s.next c.head = rw (value, ← subst_is, ← next_was, ← head_same) m.is in
         here
 
     links_add : AddsLinks (links_of e.lists) (links_of lists)
     links_add = record { nodes = t.adds; members = adds_none e.lists.members.items }
 
     -- the head was unified with the call
-    module _ (m : Meets p q (p.term attempt.call) (term_in (g.names e.store) k.head) k.variables) where
+    module _ (m : Meets p q (p.term attempt.call) (head_term (g.names e.store) k) k.variables) where
       abbrev new_body : Body
       new_body = map_body (renaming_from s.next) c.body
 

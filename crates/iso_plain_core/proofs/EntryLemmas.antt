@@ -21,7 +21,8 @@ use Rattle.iso_plain_core.specs.declared.bodies.ClauseBody.{ClauseBody}
 use Rattle.iso_plain_core.specs.Kept.{KeepsBody, IsKeptGoal, goals_in, kept_goals}
 use Rattle.iso_plain_core.specs.Nodes.{EachGoal}
 use Rattle.iso_program.specs.Written.{term_in}
-use Rattle.iso_program.proofs.WrittenLemmas.{term_is}
+use Rattle.iso_program.specs.Heads.{head_parts}
+use Rattle.iso_program.proofs.WrittenLemmas.{head_is}
 
 mutual
   term_twice : (t : Tree) → is_term t ≡ true → 2 + term_cells t ≤ 2 * size t
@@ -103,7 +104,7 @@ parts_twice names n (node.Choose c d ∷ parts) h = let others = parts_twice nam
 pub entry_within : {C : Type 0} {keeps : Keeping C} (names : List (List ℕ)) (kept : Clause C) (body : ClauseBody) (c : databases.Clause) → IsClause keeps names kept c → KeepsBody names body c → entry_cells names kept body.parts.items ≤ c.variables + 2 * (arguments_size c.head + body_size c.body)
 entry_within names kept body c is own =
     let head = goal_twice c.head is.head_template.is c.variables is.head_template in
-    let same = ap term_cells (term_is names kept.head c.head is.head) in
+    let same = ap term_cells (head_is names (head_parts kept) c.head is.head) in
     let parts = parts_twice names c.variables body.parts.items own.goal_templates in
     let goals = ap goals_size own.goals in
     let most = kept_counts c.body in

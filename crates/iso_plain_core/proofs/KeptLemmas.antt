@@ -7,17 +7,23 @@ use Rattle.iso_plain_core.specs.Nodes.{EachGoal}
 use Rattle.iso_program.specs.Kept.{IsTemplate}
 use Rattle.iso_plain_core.specs.Kept.{IsKeptGoal}
 use Rattle.iso_program.specs.Written.{Fits}
-use Rattle.iso_plain_core.specs.Entering.{GoalFits, PartsFit}
-use Rattle.iso_program.specs.Written.{IsPatternOf, term_in}
+use Rattle.iso_plain_core.specs.Entering.{HeadFits, PartsFit}
+use Rattle.iso_program.specs.Written.{term_in}
+use Rattle.iso_store_core.specs.Patterns.{IsPattern}
+use Rattle.iso_program.specs.Heads.{head_parts}
+use Rattle.iso_program.specs.declared.clauses.Clause.{Clause}
 use Rattle.iso_program.proofs.ClauseLemmas.{template_fits}
 use Rattle.iso_plain_core.specs.BodyNames.{each_goal}
-use Rattle.iso_program.proofs.WrittenLemmas.{term_is, is_written}
+use Rattle.iso_program.proofs.WrittenLemmas.{head_is}
 
-pub head_fits : (names : List (List ℕ)) (n : ℕ) (g : Pattern) (t : Tree) → IsPatternOf names g t → IsTemplate n t → GoalFits names n g
-head_fits names n g t is template = record {
-  written = is_written names g t is;
-  fits = subst (λ (u : Tree). Fits n u) (sym (term_is names g t is)) (template_fits n t template);
-}
+pub head_fits : {C : Type 0} (names : List (List ℕ)) (n : ℕ) (kept : Clause C) (t : Tree) → IsPattern names (head_parts kept) t
+    → IsTemplate n t → HeadFits names n kept
+head_fits names n kept t is template =
+    let same = sym (head_is names (head_parts kept) t is) in
+    record {
+      written = subst (λ (u : Tree). IsPattern names (head_parts kept) u) same is;
+      fits = subst (λ (u : Tree). Fits n u) same (template_fits n t template);
+    }
 
 pub kept_parts_fit : (names : List (List ℕ)) (n : ℕ) (parts : List (Node Pattern)) → EachGoal (IsKeptGoal names n) parts → PartsFit names n parts
 kept_parts_fit names n parts h = each_goal (λ g kept. record { written = kept.written; fits = template_fits n (term_in names g) kept.template }) parts h

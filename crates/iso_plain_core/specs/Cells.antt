@@ -2,6 +2,7 @@
 use Rattle.std.specs.Prelude.{ℕ, ◌+◌, List, [], ◌∷◌, Option, Some, None}
 use Rattle.iso_store_core.specs.Presents.{Present, meaning}
 use Rattle.iso_store_core.specs.declared.patterns.Pattern.{Pattern}
+use Rattle.iso_program.specs.Heads.{head_term}
 use Rattle.iso_program.specs.Written.{term_in}
 use Rattle.iso_prep.specs.declared.bodies.Node.{Node}
 use Rattle.iso_prep.specs.declared.bodies.Node.TheVariants as node
@@ -25,7 +26,7 @@ parts_cells names (part ∷ parts) = part_cells names part + parts_cells names p
 
 -- the clause's variables, its head and the goals among these parts of its body
 abbrev pub entry_cells : {C : Type 0} → List (List ℕ) → Clause C → List (Node Pattern) → ℕ
-entry_cells names c parts = c.variables + (term_cells (term_in names c.head) + parts_cells names parts)
+entry_cells names c parts = c.variables + (term_cells (head_term names c) + parts_cells names parts)
 
 -- ---- goals that are converted
 

@@ -6,6 +6,8 @@ use Rattle.iso_model.specs.Terms.Unifiers.{Unifier, NeverEqual}
 use Rattle.iso_model.specs.Terms.Copies.{renamed}
 use Rattle.iso_store_core.specs.Presents.{Present}
 use Rattle.iso_store_core.specs.declared.patterns.Pattern.{Pattern}
+use Rattle.iso_store_core.specs.Patterns.{IsPattern}
+use Rattle.iso_program.specs.Heads.{head_parts, head_term}
 use Rattle.iso_program.specs.Values.{HasValues}
 use Rattle.iso_program.specs.Written.{IsWritten, Fits, term_in}
 use Rattle.iso_plain_core.specs.Nodes.{IsAlike, AreAlike, EachGoal}
@@ -19,6 +21,11 @@ use Rattle.iso_search_core.specs.Words.{Extends}
 pub record GoalFits (names : List (List ℕ)) (n : ℕ) (g : Pattern) : Type 0 where
   pub written : IsWritten names g
   pub fits : Fits n (term_in names g)
+
+-- The head of the clause is written for such a term.
+pub record HeadFits {C : Type 0} (names : List (List ℕ)) (n : ℕ) (clause : Clause C) : Type 0 where
+  pub written : IsPattern names (head_parts clause) (head_term names clause)
+  pub fits : Fits n (head_term names clause)
 
 -- so are the goals among the parts
 abbrev pub PartsFit : List (List ℕ) → ℕ → List (Node Pattern) → Type 0
@@ -56,7 +63,7 @@ renaming_from n x = Variable (n + x)
 
 -- Nodes for these parts, the clause's body, came, the last of them at this place: for its variables it has terms of their values.
 pub record Brings {W C : Type 0} (names : List (List ℕ)) (p q : Present W) (old new : List (Node W)) (call : Tree) (clause : Clause C) (parts : List (Node Pattern)) (place : ℕ) : Type 0 where
-  pub meets : Meets p q call (term_in names clause.head) clause.variables
+  pub meets : Meets p q call (head_term names clause) clause.variables
   pub terms : Subst
   pub values : (k : ℕ) → apply q.substitution (terms k) ≡ compose p.substitution meets.unifier (p.next + k)
   pub copies : Copies names q terms old new parts
@@ -65,6 +72,6 @@ pub record Brings {W C : Type 0} (names : List (List ℕ)) (p q : Present W) (ol
 
 -- What trying the clause for a call comes to.
 abbrev pub Enters : {W C : Type 0} → List (List ℕ) → Present W → Present W → List (Node W) → List (Node W) → Tree → Clause C → List (Node Pattern) → Entered → Type 0
-Enters names p q old new call clause parts entered.Missed = NeverEqual (apply p.substitution call) (apply p.substitution (renamed p.next (term_in names clause.head)))
-Enters names p q old new call clause parts entered.Fact = Meets p q call (term_in names clause.head) clause.variables × (parts ≡ [])
+Enters names p q old new call clause parts entered.Missed = NeverEqual (apply p.substitution call) (apply p.substitution (renamed p.next (head_term names clause)))
+Enters names p q old new call clause parts entered.Fact = Meets p q call (head_term names clause) clause.variables × (parts ≡ [])
 Enters names p q old new call clause parts (entered.Body place) = Brings names p q old new call clause parts place

@@ -11,7 +11,7 @@ ghost use Rattle.iso_plain_core.specs.Cells.{part_cells, parts_cells, entry_cell
 ghost use Rattle.iso_search_core.specs.Words.{AreVariables, Extends, word_terms};
 ghost use Rattle.iso_plain_core.specs.Nodes.{IfGoal};
 ghost use Rattle.iso_program.specs.Written.{term_in};
-ghost use Rattle.iso_plain_core.specs.Entering.{Enters, GoalFits, PartsFit, CopiesPart, Copies, Adds};
+ghost use Rattle.iso_plain_core.specs.Entering.{Enters, GoalFits, HeadFits, PartsFit, CopiesPart, Copies, Adds};
 
 use super::bodies::{ClauseBody, Node};
 use iso_program::clauses::Clause;
@@ -104,7 +104,7 @@ pub fn enter<S: Store, C>(
 ) -> Result<Entered, StoreFault>
     requires goal { Holds (S.present store.old) goal }
     requires room { (S.present store.old).next + clause.now.variables < 2 ^ 63 }
-    requires head_fits { GoalFits (S.names store.old) clause.now.variables clause.now.head }
+    requires head_fits { HeadFits (S.names store.old) clause.now.variables clause.now }
     requires parts_fit { PartsFit (S.names store.old) clause.now.variables body.now.parts.items }
     ensures enters { IfOk result (Enters (S.names store.old) (S.present store.old) (S.present store.new) nodes.old.items nodes.new.items
         ((S.present store.old).term goal) clause.now body.now.parts.items) }
@@ -113,7 +113,7 @@ pub fn enter<S: Store, C>(
     ensures cells { CountsCells S.Store → Grows (S.present store.old) (S.present store.new) (entry_cells (S.names store.old) clause.now body.now.parts.items) clause.now.variables }
     ensures rest { RetainsAll S.Store store.old store.new }
 {
-    if !store.unify_head(&clause.head, goal, clause.variables, words)? {
+    if !store.unify_head(clause.head(), goal, clause.variables, words)? {
         return Ok(Entered::Missed);
     }
     let parts = body.parts.as_slice();

@@ -24,10 +24,8 @@ use Rattle.iso_store_core.specs.declared.shapes.Shape.{Shape}
 use Rattle.iso_store_core.specs.declared.shapes.Shape.TheVariants as shape
 use Rattle.iso_db.specs.Fits as keys
 use Rattle.iso_db.specs.Fits.{fits, same_key, FirstKey}
-use Rattle.iso_program.specs.declared.clauses.Clause.{Clause}
-use Rattle.iso_program.specs.Firsts.{IsTop, HasFirst, HasNoFirst}
+use Rattle.iso_program.specs.Firsts.{IsFirstOf, IsTop, HasFirst, HasNoFirst}
 use Rattle.iso_program.specs.FirstKeys.{key_of_integer, key_of_part, key_of_first, key_of_shape, ShowsKey}
-use Rattle.iso_program.specs.Kept.{Keeping, IsClause}
 
 -- ---- first arguments that don't clash
 
@@ -146,13 +144,12 @@ tops_meet names s p a u shows top fit = absurd (false≢true fit)
 
 module _ (names : List (List ℕ)) (call : Tree) where
   -- the call may enter a clause whose key fits
-  pub key_enters : {C : Type 0} {keeps : Keeping C} (key : Option FirstKey) (kept : Clause C) (c : databases.Clause)
-      → ShowsKey names key call → IsClause keeps names kept c → fits key (key_of_first kept.first) ≡ true
-      → may_enter call c ≡ true
-  key_enters None kept c shows is fit =
+  pub key_enters : (key : Option FirstKey) (first : Option Part) (c : databases.Clause) → ShowsKey names key call
+      → IsFirstOf names first c.head → fits key (key_of_first first) ≡ true → may_enter call c ≡ true
+  key_enters None part c shows is fit =
       ap not (no_clash call c.head (λ f a ts g b us first other.
       (let free = shows f a ts first in ap (λ (t : Tree). clash t b) free.1)))
-  key_enters (Some k) kept c shows is fit = by_first kept.first fit is.first where
+  key_enters (Some k) part c shows is fit = by_first part fit is where
     by_first : (o : Option Part) → fits (Some k) (key_of_first o) ≡ true
         → MatchOption o (HasNoFirst c.head) (λ p. HasFirst names p c.head) → may_enter call c ≡ true
     by_first None fit has =

@@ -16,10 +16,10 @@ use Rattle.iso_db.specs.Databases as db
 use Rattle.iso_db.specs.Fits.{fits, FirstKey, Atom, Compound}
 use Rattle.iso_db.proofs.KeyLemmas.{key_itself}
 use Rattle.iso_program.specs.declared.clauses.Clause.{Clause}
-use Rattle.iso_program.specs.Firsts.{HasFirst, HasNoFirst, Differs}
+use Rattle.iso_program.specs.Firsts.{IsFirstOf, HasFirst, HasNoFirst, Differs}
 use Rattle.iso_program.specs.FirstKeys.{key_of_integer, key_of_part, key_of_first, key_of_shape, ShowsKey}
 use Rattle.iso_program.specs.Keying.{EachKeyed}
-use Rattle.iso_program.specs.Kept.{Keeping, IsClause}
+use Rattle.iso_program.specs.Kept.{Keeping}
 use Rattle.iso_program.specs.Programs.{AreClauses, no_clauses, more_clauses}
 use Rattle.iso_program.proofs.EnterLemmas.{key_enters}
 use Rattle.iso_program.proofs.FirstLemmas.{never_shown, never_compound}
@@ -45,11 +45,10 @@ differ s p k is other = tt
 -- ---- clauses whose keys don't fit
 
 module _ (names : List (List ℕ)) (call : Tree) where
-  pub key_misses : {C : Type 0} {keeps : Keeping C} (key : Option FirstKey) (kept : Clause C) (c : databases.Clause)
-      → ShowsKey names key call → IsClause keeps names kept c → fits key (key_of_first kept.first) ≡ false
-      → Misses call c
-  key_misses None kept c shows is other = absurd (true≢false other)
-  key_misses (Some k) kept c shows is other = by_first kept.first other is.first where
+  pub key_misses : (key : Option FirstKey) (first : Option Part) (c : databases.Clause) → ShowsKey names key call
+      → IsFirstOf names first c.head → fits key (key_of_first first) ≡ false → Misses call c
+  key_misses None first c shows is other = absurd (true≢false other)
+  key_misses (Some k) first c shows is other = by_first first other is where
     by_first : (o : Option Part) → fits (Some k) (key_of_first o) ≡ false
         → MatchOption o (HasNoFirst c.head) (λ p. HasFirst names p c.head) → Misses call c
     by_first None other has = absurd (true≢false other)
@@ -75,14 +74,16 @@ module _ (names : List (List ℕ)) (call : Tree) where
       record { clauses = []; are = no_clauses; skips = no_clause; enter = tt }
   fitting added keys key shows keyed (more_clauses {k = k} {c = c} number is others) =
       let more = fitting added keys key shows keyed.1 others in
+      let of = keyed.0.key names c.head is.head in
+      let same : fits key (keys k.number) ≡ fits key (key_of_first of.0) = ap (fits key) of.2 in
       elim (cases_Bool (fits key (keys k.number))) [
         | inl fit ↦ rw fit (record {
           clauses = c ∷ more.clauses;
           are = more_clauses number is more.are;
           skips = tried_too more.skips;
-          enter = (key_enters names call key k.value c shows is (ap (fits key) (sym keyed.0.key) ∙ fit), more.enter);
+          enter = (key_enters names call key of.0 c shows of.1 (sym same ∙ fit), more.enter);
         })
-        | inr other ↦ (let misses = key_misses key k.value c shows is (ap (fits key) (sym keyed.0.key) ∙ other) in
+        | inr other ↦ (let misses = key_misses key of.0 c shows of.1 (sym same ∙ other) in
             rw other (record {
               clauses = more.clauses;
               are = more.are;

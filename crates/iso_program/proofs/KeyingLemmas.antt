@@ -12,11 +12,17 @@ use Rattle.iso_program.specs.declared.clauses.Clause.{Clause}
 use Rattle.iso_program.specs.declared.procedures.Way.{Way}
 use Rattle.iso_program.specs.declared.procedures.Way.TheVariants as way
 use Rattle.iso_program.specs.Adding.{came}
-use Rattle.iso_program.specs.FirstKeys.{key_of_first}
+use Rattle.iso_store_core.specs.declared.patterns.Part.{Part}
+use Rattle.iso_program.specs.FirstKeys.{IsKeyOf}
+use Rattle.iso_program.specs.Heads.{head_parts}
 use Rattle.iso_program.specs.Keying.{IsKeyed, EachKeyed, HasKeys, AreKeyed, Preserves}
 use Rattle.iso_program.proofs.ProgramLemmas.{absent_is, placed}
 
 -- ---- lists of clauses
+
+-- a key that is the same is one of the same parts
+pub key_on : {ks : List Part} {key more : Option FirstKey} → key ≡ more → IsKeyOf ks key → IsKeyOf ks more
+key_on {ks = ks} same is = subst (λ (k : Option FirstKey). IsKeyOf ks k) same is
 
 -- keys that stay, of clauses that were added before
 abbrev SameKeys : ℕ → (ℕ → Option FirstKey) → (ℕ → Option FirstKey) → Type 0
@@ -25,7 +31,7 @@ SameKeys added keys more = (n : ℕ) → n < added → more n ≡ keys n
 module _ {added later : ℕ} {keys more : ℕ → Option FirstKey} (few : added ≤ later)
     (same : SameKeys added keys more) where
   one_on : {C : Type 0} (k : db.Clause (Clause C)) → IsKeyed added keys k → IsKeyed later more k
-  one_on k is = (let below = is.number in record { number = omega (arith, few, below); key = same k.number is.number ∙ is.key })
+  one_on k is = (let below = is.number in record { number = omega (arith, few, below); key = key_on (sym (same k.number is.number)) is.key })
 
   each_on : {C : Type 0} (ks : List (db.Clause (Clause C))) → EachKeyed added keys ks → EachKeyed later more ks
   each_on [] h = tt
@@ -69,7 +75,7 @@ module _ {C : Type 0} {keys more : ℕ → Option FirstKey} (d : Database (Claus
 
   -- a clause comes in one of the ways
   keys_came : (w : Way) (place : ℕ) (value : Clause C) → SameKeys d.added keys more
-      → more d.added ≡ key_of_first value.first → HasKeys keys d → HasKeys more (came w place value d)
+      → IsKeyOf (head_parts value) (more d.added) → HasKeys keys d → HasKeys more (came w place value d)
   keys_came w place value same key h = by_way w where
     new : db.Clause (Clause C)
     new = record { number = d.added; value = value }
@@ -118,10 +124,10 @@ module _ {C : Type 0} (old new : Db (Clause C)) (clauses : KeepsClauses old new)
   -- a clause came with its key
   pub preserves_came : (w : Way) (place number : ℕ) (value : Clause C)
       → contents new ≡ came w place value (contents old) → number ≡ (contents old).added
-      → key_in new number ≡ key_of_first value.first → Preserves old new
+      → IsKeyOf (head_parts value) (key_in new number) → Preserves old new
   preserves_came w place number value are numbered key =
       preserves_as (came w place value (contents old)) are (added_more w)
-      (keys_came (contents old) w place value index.keys (ap (key_in new) (sym numbered) ∙ key)) where
+      (keys_came (contents old) w place value index.keys (key_on (ap (key_in new) numbered) key)) where
         added_more : (w : Way) → (contents old).added ≤ (came w place value (contents old)).added
         added_more way.Consulted = omega arith
         added_more way.First = omega arith

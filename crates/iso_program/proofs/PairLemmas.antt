@@ -1,5 +1,5 @@
 -- Patterns one behind the other, and the pattern of a compound of the two terms.
-use Rattle.std.proofs.Common.{◌≡◌, ◌≤◌, ◌<◌, ℕ, suc, ◌+◌, ◌-◌, List, [], ◌∷◌, ◌++◌, length, take, drop, true, refl, ap, ◌∙◌, sym, subst, arith, append_assoc, length-append, length-take, nat_le}
+use Rattle.std.proofs.Common.{◌≡◌, ◌≤◌, ◌<◌, ℕ, zero, suc, ◌+◌, ◌-◌, List, [], ◌∷◌, ◌++◌, length, take, drop, true, refl, ap, ◌∙◌, sym, subst, arith, append_assoc, length-append, length-take, nat_le}
 use Rattle.std.proofs.lemmas.Bool.{and_parts, leb-true, le-leb}
 use Rattle.std.proofs.lemmas.List.Elements.{All-append, All-nil, All-cons}
 use Rattle.iso_atoms.specs.Texts.{text_at}
@@ -15,6 +15,16 @@ use Rattle.iso_store_core.specs.Patterns.{IsNamed, IsPattern, part_step, after_p
 
 pub gathered_length : (f : List ℕ) (n : ℕ) (ts : List Tree) → n ≤ length ts → length (with_step (Gather f n) ts) ≡ length ts - n + 1
 gathered_length f n ts few = simp (length-append, length-take) (omega (arith, few))
+
+-- ---- the first of the parts
+
+pub exact_first : (ks : List Part) (n m : ℕ) → are_exact ks m ≡ true → are_exact (take n ks) m ≡ true
+exact_first ks zero m h = refl
+exact_first [] (suc n) m h = refl
+exact_first (Compound a k ∷ ks) (suc n) m h =
+    let both = and_parts (nat_le k m) (are_exact ks (m - k + 1)) h in
+    rw both.0 (exact_first ks n (m - k + 1) both.1)
+exact_first (k ∷ ks) (suc n) m h = exact_first ks n (m + 1) h
 
 -- ---- parts behind a term
 

@@ -3,13 +3,14 @@ use Rattle.std.specs.Prelude.{◌≡◌, ℕ, ℤ, pos, ◌-ℤ◌, ◌*ℤ◌, 
 use Rattle.std.specs.Int.{int_shr}
 use Rattle.iso_model.specs.Terms.Integers.{is_short}
 use Rattle.iso_model.specs.Terms.Trees.{Tree}
+use Rattle.iso_store_core.specs.Patterns.{IsPattern}
 use Rattle.iso_store_core.specs.declared.patterns.Part.{Part}
 use Rattle.iso_store_core.specs.declared.patterns.Part.TheVariants as part
 use Rattle.iso_store_core.specs.declared.shapes.Shape.{Shape}
 use Rattle.iso_store_core.specs.declared.shapes.Shape.TheVariants as shape
 use Rattle.iso_db.specs.Fits.{FirstKey}
 use Rattle.iso_db.specs.Fits.{Integer, Wide, Atom, Compound}
-use Rattle.iso_program.specs.Firsts.{ShowsFirst, HasFreeFirst}
+use Rattle.iso_program.specs.Firsts.{IsFirstOf, ShowsFirst, HasFreeFirst}
 
 -- the key of an integer: all of it where it has 64 bits, else its upper half, with the sign, and its lower half
 abbrev pub key_of_integer : ℤ → FirstKey
@@ -26,6 +27,11 @@ key_of_part (part.Compound a n) = Some (Compound a n)
 abbrev pub key_of_first : Option Part → Option FirstKey
 key_of_first None = None
 key_of_first (Some k) = key_of_part k
+
+-- the parts are those of terms for whose first argument the key stands
+abbrev pub IsKeyOf : List Part → Option FirstKey → Type 0
+IsKeyOf parts key = (names : List (List ℕ)) (t : Tree) → IsPattern names parts t
+    → (first : Option Part) × IsFirstOf names first t × (key ≡ key_of_first first)
 
 -- the key of a call, whose first argument has this shape
 abbrev pub key_of_shape : Shape → Option FirstKey

@@ -13,6 +13,7 @@ use Rattle.iso_model.specs.Search.Errors.{permission_error}
 use Rattle.iso_model.specs.Search.Additions.{most_variables, Check, Fits, Faulty, UnboundHead, NotCallable, TooManyVariables, checked, prepared, fault_error, clause_of}
 use Rattle.iso_model.specs.declared.pauses.AddFault.{AddFault}
 use Rattle.iso_model.specs.declared.pauses.AddFault.TheVariants as add
+use Rattle.iso_store_core.specs.Patterns.{IsPattern}
 use Rattle.iso_prep.specs.declared.fault.Fault.{Fault}
 use Rattle.iso_prep.specs.declared.fault.Fault.TheVariants as fault
 use Rattle.iso_prep.specs.Classes.{goals_of}
@@ -20,7 +21,7 @@ use Rattle.iso_prep.specs.Preparations.{Preparation, clause_preparation}
 use Rattle.iso_prep.specs.PreparationLaws.{HasTerms}
 use Rattle.iso_program.specs.declared.checked.Checked.{Checked}
 use Rattle.iso_program.specs.declared.clauses.Clause.{Clause}
-use Rattle.iso_program.specs.Firsts.{IsFirstOf}
+use Rattle.iso_program.specs.Heads.{head_parts}
 use Rattle.iso_program.specs.Written.{IsPatternOf, Fits as FitsPlaces}
 
 -- A callable term whose variables are below n.
@@ -73,8 +74,7 @@ StaysKept {C = C} keeps = (old new : List (List ℕ)) (own : C) (c : databases.C
 -- The clause of the database is kept so.
 pub record IsClause {C : Type 0} (keeps : Keeping C) (names : List (List ℕ)) (kept : Clause C) (c : databases.Clause)
     : Type 0 where
-  pub head : IsPatternOf names kept.head c.head
-  pub first : IsFirstOf names kept.first c.head
+  pub head : IsPattern names (head_parts kept) c.head
   pub whole : IsPatternOf names kept.whole (clause_term c)
   pub fits : FitsPlaces c.variables (clause_term c)
   pub variables : kept.variables ≡ c.variables

@@ -1,17 +1,18 @@
 -- The keys that the database has of its clauses, and what stands on while it changes (ISO/IEC 13211-1:1995, 7.5.4).
-use Rattle.std.specs.Prelude.{◌≡◌, ◌<◌, ◌≤◌, ℕ, List, [], ◌∷◌, Option}
+use Rattle.std.specs.Prelude.{◌<◌, ◌≤◌, ℕ, List, [], ◌∷◌, Option}
 use Rattle.iso_db.specs.Databases as db
 use Rattle.iso_db.specs.Databases.{Database}
 use Rattle.iso_db.specs.Presents.{contents, key_in, KeepsClauses, KeepsIndex}
 use Rattle.iso_db.specs.declared.db.Db.{Db}
 use Rattle.iso_db.specs.Fits.{FirstKey}
 use Rattle.iso_program.specs.declared.clauses.Clause.{Clause}
-use Rattle.iso_program.specs.FirstKeys.{key_of_first}
+use Rattle.iso_program.specs.FirstKeys.{IsKeyOf}
+use Rattle.iso_program.specs.Heads.{head_parts}
 
 -- The clause is one of so many that were added, and its key is that of its head's first argument.
 pub record IsKeyed {C : Type 0} (added : ℕ) (keys : ℕ → Option FirstKey) (k : db.Clause (Clause C)) : Type 0 where
   pub number : k.number < added
-  pub key : keys k.number ≡ key_of_first k.value.first
+  pub key : IsKeyOf (head_parts k.value) (keys k.number)
 
 -- Each of the clauses is.
 abbrev pub EachKeyed : {C : Type 0} → ℕ → (ℕ → Option FirstKey) → List (db.Clause (Clause C)) → Type 0

@@ -1,5 +1,6 @@
 pub mod Written
 pub mod Values
+pub mod Heads
 pub mod Firsts
 pub mod FirstKeys
 pub mod Kept

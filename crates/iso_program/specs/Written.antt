@@ -6,6 +6,7 @@ use Rattle.iso_model.specs.declared.terms.Term.{Term}
 use Rattle.iso_model.specs.Terms.Trees.{Tree, End, arities_fit}
 use Rattle.iso_model.specs.Terms.TermOf.{term_of}
 use Rattle.iso_store_core.specs.Patterns.{IsPattern, HasPlaces, after_parts}
+use Rattle.iso_store_core.specs.declared.patterns.Part.{Part}
 use Rattle.iso_store_core.specs.declared.patterns.Pattern.{Pattern}
 
 module _ (names : List (List ℕ)) where
@@ -16,6 +17,10 @@ module _ (names : List (List ℕ)) where
   -- the term that a pattern is written for
   unfoldable pub term_in : Pattern → Tree
   term_in g = slice_index_or (after_parts names g.parts.items []) 0 End
+
+  -- the term that the parts are written for
+  unfoldable pub term_of_parts : List Part → Tree
+  term_of_parts ks = slice_index_or (after_parts names ks []) 0 End
 
   -- it is written for some term
   abbrev pub IsWritten : Pattern → Type 0

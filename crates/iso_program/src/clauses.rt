@@ -4,6 +4,8 @@ ghost use Rattle.iso_model.specs.Terms.Trees.{Tree, arities_fit};
 ghost use Rattle.iso_model.specs.Terms.TermOf.{term_of};
 ghost use Rattle.iso_model.specs.Search.Databases.{key_of};
 ghost use Rattle.iso_model.specs.Search.Errors.{key};
+ghost use Rattle.iso_store_core.specs.Exact.{are_exact};
+ghost use Rattle.iso_program.specs.Heads.{head_parts};
 ghost use Rattle.iso_program.specs.Kept.{IsReady, Refuses, ChecksUser, Prepares};
 
 use super::checked::Checked;
@@ -19,11 +21,22 @@ pub struct Clause<C> {
     /// What an engine runs.
     pub own: C,
     pub variables: usize,
-    pub head: Pattern,
-    /// The outermost part of the head's first argument, where it has any.
-    pub first: Option<Part>,
+    /// How many of the first parts of the whole are those of the head.
+    pub head: usize,
     /// The term `Head :- Body`, as which the clause is shown.
     pub whole: Pattern,
+}
+
+impl<C> Clause<C> {
+    /// The parts of the head.
+    #[inline]
+    pub fn head(&self) -> &[Part]
+        ensures parts { result.now ≡ head_parts self.now }
+        ensures exact { are_exact result.now 0 ≡ true }
+    {
+        let parts = self.whole.parts.as_slice();
+        &parts[..self.head.min(parts.len())]
+    }
 }
 
 /// The name and the number of arguments of a callable term.

@@ -1,5 +1,5 @@
 //! Clauses written out for the store, with numbers for their names: once, before any goal is run.
-ghost use Rattle.std.specs.Prelude.{◌≡◌, ◌<◌, ℕ, List, IfOk, codes, length};
+ghost use Rattle.std.specs.Prelude.{◌≡◌, ◌<◌, ℕ, List, IfOk, codes, length, take};
 ghost use Rattle.iso_atoms.specs.Texts.{text_at};
 ghost use Rattle.iso_model.specs.Terms.Trees.{Tree};
 ghost use Rattle.iso_model.specs.Terms.TermOf.{term_of};
@@ -11,7 +11,6 @@ ghost use Rattle.iso_program.specs.Kept.{IsChecked, IsClause};
 
 use super::checked::Checked;
 use super::clauses::Clause;
-use super::firsts::first_part;
 use super::kept::Kept;
 use iso_atoms::Atom;
 use iso_model::{NoMemory, Term};
@@ -23,7 +22,8 @@ use std::alloc::{AllocError, Global};
 fn pair(alloc: Global, name: Atom, first: &Pattern, second: &Pattern) -> Result<Pattern, AllocError>
     requires first { (names : List (List ℕ)) × (t : Tree) × IsPatternOf names first.now t }
     requires second { (names : List (List ℕ)) × (t : Tree) × IsPatternOf names second.now t }
-    ensures { (names : List (List ℕ)) (t u : Tree) → name < length names → IsPatternOf names first.now t
+    ensures begins { IfOk result (λ pair. take (length first.now.parts.items) pair.parts.items ≡ first.now.parts.items) }
+    ensures pattern { (names : List (List ℕ)) (t u : Tree) → name < length names → IsPatternOf names first.now t
         → IsPatternOf names second.now u
         → IfOk result (λ pair. IsPatternOf names pair (two (text_at names name) t u)) }
 {
@@ -46,6 +46,7 @@ fn written_whole<S: Store>(
     requires head { (t : Tree) × IsPatternOf (S.names store.old) head.now t }
     ensures whole { (t : Tree) → IsPatternOf (S.names store.old) head.now t
         → IfOk result (λ whole. IsPatternOf (S.names store.new) whole (two (codes ":-") t (term_of body.now))) }
+    ensures begins { IfOk result (λ whole. take (length head.now.parts.items) whole.parts.items ≡ head.now.parts.items) }
     ensures rest { Retains S.Store store.old store.new }
     ensures present { S.present store.new ≡ S.present store.old }
 {
@@ -68,10 +69,8 @@ pub fn written_clause<S: Store, C: Kept<S>>(
     let head = store.pattern(checked.head())?;
     let whole = written_whole(alloc, store, &head, checked.prepared.body())?;
     let own = C::keep(alloc, store, checked)?;
-    let first = first_part(head.parts.as_slice());
     Ok(Clause {
-        head,
-        first,
+        head: head.parts.len(),
         whole,
         variables: checked.prepared.variables(),
         own,

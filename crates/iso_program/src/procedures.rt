@@ -9,14 +9,16 @@ ghost use Rattle.iso_program.specs.Kept.{IsClause};
 ghost use Rattle.iso_program.specs.Callables.{Finds, KeepsPlaces, callee_at};
 ghost use Rattle.iso_program.specs.Programs.{IsDatabase, place_at, kind_of, kept_at};
 ghost use Rattle.iso_program.specs.Adding.{IsFound, MayCome, came, with_more};
+ghost use Rattle.iso_program.specs.FirstKeys.{IsKeyOf};
+ghost use Rattle.iso_program.specs.Heads.{head_parts};
 ghost use Rattle.iso_program.specs.Keying.{Preserves};
 ghost use Rattle.iso_program.specs.declared.callables.Callee.TheVariants as callee;
 
 use super::callables::{self, Callables, Callee};
 use super::clauses::Clause;
-use super::firsts::key_of_first;
+use super::firsts::{first_part, key_of_first};
 use super::kept::OfClause;
-use iso_db::{Db, DbFault};
+use iso_db::{Db, DbFault, FirstKey};
 use iso_lib::indicators::Functor;
 use std::alloc::{AllocError, Global};
 
@@ -67,6 +69,13 @@ pub fn place<C: OfClause>(
     }
 }
 
+/// The key of the first argument of the clause's head; none where that is a variable, or where there is no argument.
+fn key_of_head<C>(clause: &Clause<C>) -> Option<FirstKey>
+    ensures { IsKeyOf (head_parts clause.now) result }
+{
+    key_of_first(first_part(clause.head()))
+}
+
 /// Adds the clause with its key to the procedure at this place, which may take it. The error is that memory was
 /// refused; nothing changed then.
 fn insert<C: Drop>(
@@ -81,7 +90,7 @@ fn insert<C: Drop>(
     ensures unchanged { OnErr result (contents db.new ≡ contents db.old) }
     ensures preserves { Preserves db.old db.new }
 {
-    let key = key_of_first(clause.first);
+    let key = key_of_head(&clause);
     match way {
         Way::Consulted => {
             db.add_consulted(place, key, clause)?;

@@ -24,6 +24,7 @@ pub mod RunLemmas
 pub mod SameBodies
 pub mod SearchSteps
 pub mod ShowEnds
+pub mod SolutionLists
 pub mod StartLemmas
 pub mod StoppedLemmas
 pub mod ThrowLemmas

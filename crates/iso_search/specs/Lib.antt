@@ -1,5 +1,6 @@
 pub mod Called
 pub mod Catches
+pub mod Constants
 pub mod EngineStates
 pub mod Faults
 pub mod Gathers

@@ -15,7 +15,7 @@ ghost use Rattle.iso_store_core.specs.Presents.{meaning};
 
 use super::backtracking::Newest;
 use super::search::{Move, Search};
-use iso_lib::unify_copy;
+use super::solutions::unify_gathered;
 use iso_search_core::choices::Left;
 use iso_search_core::ends::End;
 use iso_search_core::lists::Lists;
@@ -122,8 +122,7 @@ impl<S: Store + Drop, L: Lists<S>> Search<S, L> {
         ensures stays { Stays S.Store self.old self.new }
     {
         let gathered = self.take_gathered(newest.mark);
-        let list = gathered.into_list(self.alloc)?;
-        if !unify_copy(self.alloc, &mut self.store, solutions, &list)? {
+        if !unify_gathered(self.alloc, &mut self.store, solutions, gathered)? {
             self.now = Now::Failing;
             return Ok(());
         }

@@ -22,6 +22,7 @@ mod raises;
 pub mod retries;
 mod runs;
 pub mod search;
+mod solutions;
 pub mod starts;
 mod storages;
 mod throws;

@@ -5,7 +5,7 @@ ghost use Rattle.iso_model.specs.Search.Walker.{State, World, Alternative, cut_b
 ghost use Rattle.iso_search.specs.Members.{IsCut, IsLeave};
 
 use super::search::{Move, Search};
-use iso_search_core::choices::gather;
+use super::solutions::gather_solution;
 use iso_search_core::lists::Lists;
 use iso_search_core::nows::Now;
 use iso_store_core::{Store, StoreFault};
@@ -76,7 +76,7 @@ impl<S: Store + Drop, L: Lists<S>> Search<S, L> {
         ensures { Moved S.Store L.Lists (λ s. ⊥) self.old result self.new }
     {
         let solution = self.store.copy_out(template)?;
-        gather(self.alloc, &mut self.choices, height, &solution)?;
+        gather_solution(self.alloc, &mut self.choices, height, solution)?;
         self.now = Now::Failing;
         Ok(Move::Goes)
     }

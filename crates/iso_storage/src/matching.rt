@@ -44,7 +44,7 @@ fn unifies<S: Store, C: OfClause>(
 {
     // Reserves none: it says that no number from the next one on is taken.
     let _next = store.reserve(0);
-    let shown = store.renew(&clause.head, clause.variables)?;
+    let shown = store.renew(clause.head(), clause.variables)?;
     store.unify(head, shown)
 }
 

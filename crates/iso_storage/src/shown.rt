@@ -35,7 +35,7 @@ pub fn unify_clause<S: Store, C: OfClause>(
     // The mark is given up at once: it says that the bindings are a substitution.
     let mark = store.mark();
     store.forget(mark);
-    let shown = store.renew(&clause.whole, clause.variables)?;
+    let shown = store.renew(clause.whole.parts.as_slice(), clause.variables)?;
     let shown_head = store.arg(shown, 0);
     let shown_body = store.arg(shown, 1);
     if !store.unify(head, shown_head)? {

@@ -12,7 +12,10 @@ use iso_model::NoMemory;
 use iso_store_core::Shape;
 
 /// So often a compound is gone into, or gone on with, without notes. One that is shared counts each time.
-const FEW: usize = 128;
+const FEW: usize = 4096;
+
+/// Compounds of so many arguments in all are gone into without notes.
+const MOST: usize = 4096;
 
 /// What a term is to a search for a variable.
 #[derive(Clone, Copy)]
@@ -103,10 +106,15 @@ pub(crate) fn in_few<S: Primitives>(
     let mut compound = store.end(word);
     let mut index = 0;
     let mut count = all;
+    let mut room = MOST;
     for _turn in 0..FEW {
         match look_on(store, number, compound, index, count) {
             Found::There => return Ok(Some(true)),
             Found::Compound(inner, next, many) => {
+                if room < many {
+                    return Ok(None);
+                }
+                room -= many;
                 if next < count {
                     tasks.push(Task::Search(compound, next, count))?;
                 }

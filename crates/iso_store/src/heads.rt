@@ -5,6 +5,7 @@ ghost use Rattle.iso_model.specs.Terms.Trees.{Tree};
 ghost use Rattle.iso_model.specs.Terms.Substitutions.{Subst, apply};
 ghost use Rattle.iso_store_core.specs.Copying.{cells_of};
 ghost use Rattle.iso_store_core.specs.Presents.{Holds, meaning, IsUnification, Grows, KeepsMarks};
+ghost use Rattle.iso_store_core.specs.Exact.{are_exact};
 ghost use Rattle.iso_store_core.specs.Patterns.{IsPattern, at_places};
 ghost use Rattle.iso_store_core.specs.Heads.{IsHeadMet};
 ghost use Rattle.iso_store.specs.Writing.{IsFitPattern};
@@ -15,7 +16,7 @@ use super::primitives::Primitives;
 use super::reading::{Later, begin, read_head};
 use super::scratch::{Scratch, UnifyNotes, keep, take_scratch};
 use super::unify::{Task, unify_made};
-use iso_store_core::{Pattern, StoreFault};
+use iso_store_core::{Part, StoreFault};
 
 /// The word of the variable of this number: its value where it has one, else the variable, which comes.
 fn word_for<S: Primitives>(
@@ -70,22 +71,22 @@ fn words_for<S: Primitives>(
 /// variables.
 fn unify_part<S: Primitives>(
     store: &mut S,
-    head: &Pattern,
+    head: &[Part],
     part: Later<S::Word>,
     words: &[S::Word],
     notes: &mut UnifyNotes<S::Word>,
     tasks: &mut Vec<Task<S::Word>>,
 ) -> Result<bool, StoreFault>
-    requires later { IsLater (S.present store.old) (S.names store.old) head.now.parts.items (length words.now) part }
+    requires later { IsLater (S.present store.old) (S.names store.old) head.now (length words.now) part }
     requires words { All (λ w. Holds (S.present store.old) w) words.now }
     ensures unified { IfOk result (IsUnification (S.present store.old) (S.present store.new) (meaning (S.present store.old) part.word)
-        (apply (at_places (map (meaning (S.present store.old)) words.now)) (term_between (S.names store.old) head.now.parts.items part.from part.past))) }
-    ensures cells { Grows (S.present store.old) (S.present store.new) (cells_of S.atomic S.width (term_between (S.names store.old) head.now.parts.items part.from part.past)) 0 }
+        (apply (at_places (map (meaning (S.present store.old)) words.now)) (term_between (S.names store.old) head.now part.from part.past))) }
+    ensures cells { Grows (S.present store.old) (S.present store.new) (cells_of S.atomic S.width (term_between (S.names store.old) head.now part.from part.past)) 0 }
     ensures full { result ≡ Err StoreFault.Full → S.full store.new }
     ensures names { S.names store.new ≡ S.names store.old }
     ensures marks { KeepsMarks (S.stands store.old) (S.stands store.new) }
 {
-    let parts = &head.parts[part.from..part.past];
+    let parts = &head[part.from..part.past];
     let made = make_parts(store, parts, words, &mut notes.made)?;
     unify_made(store, part.word, made, notes, tasks)
 }
@@ -93,18 +94,18 @@ fn unify_part<S: Primitives>(
 /// Whether all that was left for later can be unified with its words, which then is bound.
 fn unify_later<S: Primitives>(
     store: &mut S,
-    head: &Pattern,
+    head: &[Part],
     later: &[Later<S::Word>],
     words: &[S::Word],
     notes: &mut UnifyNotes<S::Word>,
     tasks: &mut Vec<Task<S::Word>>,
 ) -> Result<bool, StoreFault>
-    requires later { All (IsLater (S.present store.old) (S.names store.old) head.now.parts.items (length words.now)) later.now }
+    requires later { All (IsLater (S.present store.old) (S.names store.old) head.now (length words.now)) later.now }
     requires words { All (λ w. Holds (S.present store.old) w) words.now }
     ensures unified { IfOk result (λ answer. MatchBool answer
-        (UnifiesThese (S.present store.old) (S.present store.new) (S.names store.old) head.now.parts.items words.now later.now)
-        ((t : Subst) → MakesThese (S.present store.old) (S.names store.old) head.now.parts.items words.now t later.now → ⊥)) }
-    ensures cells { Grows (S.present store.old) (S.present store.new) (later_cells (S.names store.old) head.now.parts.items S.atomic S.width later.now) 0 }
+        (UnifiesThese (S.present store.old) (S.present store.new) (S.names store.old) head.now words.now later.now)
+        ((t : Subst) → MakesThese (S.present store.old) (S.names store.old) head.now words.now t later.now → ⊥)) }
+    ensures cells { Grows (S.present store.old) (S.present store.new) (later_cells (S.names store.old) head.now S.atomic S.width later.now) 0 }
     ensures full { result ≡ Err StoreFault.Full → S.full store.new }
     ensures names { S.names store.new ≡ S.names store.old }
     ensures marks { KeepsMarks (S.stands store.old) (S.stands store.new) }
@@ -120,18 +121,19 @@ fn unify_later<S: Primitives>(
 /// Unifies the goal with the head, with these notes and lists; what it comes to is as of `unify_head`.
 fn unify_head_with<S: Primitives>(
     store: &mut S,
-    head: &Pattern,
+    head: &[Part],
     goal: S::Word,
     count: usize,
     words: &mut Vec<S::Word>,
     scratch: &mut Scratch<S::Word>,
 ) -> Result<bool, StoreFault>
     requires goal { Holds (S.present store.old) goal }
-    requires head { IsFitPattern (S.names store.old) head.now.parts.items count }
+    requires head { IsFitPattern (S.names store.old) head.now count }
+    requires exact { are_exact head.now 0 ≡ true }
     requires next { (S.present store.old).next + count < 2 ^ 63 }
-    ensures met { (t : Tree) → IsPattern (S.names store.old) head.now.parts.items t
+    ensures met { (t : Tree) → IsPattern (S.names store.old) head.now t
         → IfOk result (λ answer. IsHeadMet (S.present store.old) (S.present store.new) goal t count words.new.items answer) }
-    ensures cells { (t : Tree) → IsPattern (S.names store.old) head.now.parts.items t → Grows (S.present store.old) (S.present store.new) (count + cells_of S.atomic S.width t) count }
+    ensures cells { (t : Tree) → IsPattern (S.names store.old) head.now t → Grows (S.present store.old) (S.present store.new) (count + cells_of S.atomic S.width t) count }
     ensures full { result ≡ Err StoreFault.Full → S.full store.new }
     ensures names { S.names store.new ≡ S.names store.old }
     ensures marks { KeepsMarks (S.stands store.old) (S.stands store.new) }
@@ -160,21 +162,22 @@ fn unify_head_with<S: Primitives>(
     )
 }
 
-/// Whether the goal and the head of a clause, whose pattern this is, unify; the head is read part by part. The
+/// Whether the goal and the head of a clause, which has these parts, unify; they are read one by one. The
 /// clause's variables, so many, get the next numbers, and the list has words of their values in place of what it had.
 pub(crate) fn unify_head<S: Primitives>(
     store: &mut S,
-    head: &Pattern,
+    head: &[Part],
     goal: S::Word,
     count: usize,
     words: &mut Vec<S::Word>,
 ) -> Result<bool, StoreFault>
     requires goal { Holds (S.present store.old) goal }
-    requires head { IsFitPattern (S.names store.old) head.now.parts.items count }
+    requires head { IsFitPattern (S.names store.old) head.now count }
+    requires exact { are_exact head.now 0 ≡ true }
     requires next { (S.present store.old).next + count < 2 ^ 63 }
-    ensures met { (t : Tree) → IsPattern (S.names store.old) head.now.parts.items t
+    ensures met { (t : Tree) → IsPattern (S.names store.old) head.now t
         → IfOk result (λ answer. IsHeadMet (S.present store.old) (S.present store.new) goal t count words.new.items answer) }
-    ensures cells { (t : Tree) → IsPattern (S.names store.old) head.now.parts.items t → Grows (S.present store.old) (S.present store.new) (count + cells_of S.atomic S.width t) count }
+    ensures cells { (t : Tree) → IsPattern (S.names store.old) head.now t → Grows (S.present store.old) (S.present store.new) (count + cells_of S.atomic S.width t) count }
     ensures full { result ≡ Err StoreFault.Full → S.full store.new }
     ensures names { S.names store.new ≡ S.names store.old }
     ensures marks { KeepsMarks (S.stands store.old) (S.stands store.new) }

@@ -1,8 +1,10 @@
 //! A store of cells in one area: what is made stands on its low stack, the trail on the high one.
-ghost use Rattle.std.specs.Prelude.{◌≡◌, ◌≢◌, ℕ, ◌+◌, ◌<◌, ◌≤◌, ◌++◌, ◌∷◌, [], length, map, take, IfOk, OnOk, OnErr, slice_get, slice_set, is_ok, if◌then◌else◌, None, Some, true, false};
+ghost use Rattle.std.specs.Prelude.{◌≡◌, ◌≢◌, ℕ, ◌+◌, ◌<◌, ◌≤◌, ◌++◌, ◌∷◌, [], length, map, take, IfOk, IfSome, OnOk, OnErr, slice_get, slice_set, is_ok, if◌then◌else◌, None, Some, true, false};
 ghost use Rattle.std.specs.List.{All, list_any, position_or_len};
 ghost use Rattle.iso_atoms.specs.Texts.{EachOnce};
+ghost use Rattle.iso_model.specs.Terms.Order.{term_cmp};
 ghost use Rattle.iso_model.specs.Terms.Trees.{Variable};
+ghost use Rattle.iso_model.specs.Terms.Sorts.{is_term};
 ghost use Rattle.iso_model.specs.Terms.Substitutions.{apply, single};
 ghost use Rattle.iso_model.specs.Terms.Variables.{occurs};
 ghost use Rattle.iso_store.specs.HeapTerms.{made_term, heap_substitution, bound_count, variable_cells};
@@ -11,6 +13,7 @@ ghost use Rattle.iso_model.specs.Terms.Sizes.{size};
 ghost use Rattle.iso_store_core.specs.Presents.{Binds, Grows, Holds, KeepsMarks, KeepsWords, meaning};
 ghost use Rattle.iso_store.specs.Meetings.{IsYounger};
 ghost use Rattle.iso_store_core.specs.Retaining.{CountsCells};
+ghost use Rattle.iso_store_core.specs.Shapes.{IsShape};
 ghost use Rattle.iso_store.specs.HeapLemmas.{place_term};
 ghost use Rattle.iso_store.specs.Writing.{IsPlace, picked};
 ghost use Rattle.iso_store.specs.FlatCells.{IsStorable, is_unbound};
@@ -34,7 +37,7 @@ use super::meetings::Meeting;
 use super::order::compare;
 use super::patterns::{Places, written};
 use super::primitives::Primitives;
-use super::reaches::{farther_to, within};
+use super::reaches::{farther_to, place_of, within};
 use super::scratch::Scratch;
 use super::unify::unify;
 use super::variables::variables;
@@ -187,6 +190,37 @@ impl Heap {
         }
     }
 
+    /// As `walked`, for a word that seldom leads on.
+    #[inline(always)]
+    pub(crate) fn walked_near(&self, word: HeapWord) -> HeapWord
+        requires { is_word (take self.now.named self.now.atoms) self.now.area.low word ≡ true }
+        ensures holds { is_word (take self.now.named self.now.atoms) self.now.area.low result ≡ true }
+        ensures end { next_word self.now.area.low result ≡ None }
+        ensures same { apply (heap_substitution (take self.now.named self.now.atoms) self.now.area.low) (made_term (take self.now.named self.now.atoms) self.now.area.low result)
+            ≡ apply (heap_substitution (take self.now.named self.now.atoms) self.now.area.low) (made_term (take self.now.named self.now.atoms) self.now.area.low word) }
+    {
+        let HeapWord::Var(place) = word else {
+            return word;
+        };
+        match self.bound_to(place) {
+            None => word,
+            Some(_) => self.walked_far(word),
+        }
+    }
+
+    /// As `walked`, apart from its callers.
+    #[cold]
+    #[inline(never)]
+    fn walked_far(&self, word: HeapWord) -> HeapWord
+        requires { is_word (take self.now.named self.now.atoms) self.now.area.low word ≡ true }
+        ensures holds { is_word (take self.now.named self.now.atoms) self.now.area.low result ≡ true }
+        ensures end { next_word self.now.area.low result ≡ None }
+        ensures same { apply (heap_substitution (take self.now.named self.now.atoms) self.now.area.low) (made_term (take self.now.named self.now.atoms) self.now.area.low result)
+            ≡ apply (heap_substitution (take self.now.named self.now.atoms) self.now.area.low) (made_term (take self.now.named self.now.atoms) self.now.area.low word) }
+    {
+        self.walked(word)
+    }
+
     /// Whether it shows without a search that the unbound variable whose cell is at this place does not occur in what the
     /// word stands for, which is at the end of its bindings.
     #[inline(always)]
@@ -195,12 +229,38 @@ impl Heap {
         ensures { (n : ℕ) → meaning (⟦<Heap as Primitives>⟧.present self.now) (HeapWord.Var place) ≡ Variable n → result ≡ true
             → occurs n (meaning (⟦<Heap as Primitives>⟧.present self.now) word.now) ≡ false }
     {
-        match word {
-            HeapWord::Var(target) | HeapWord::Structure(target) | HeapWord::Boxed(target) => {
-                self.forward < place && *target < place
-            }
-            HeapWord::Int(_) | HeapWord::Atom(_) => true,
+        match place_of(word) {
+            Some(target) => self.forward < place && target < place,
+            None => true,
         }
+    }
+
+    /// The shape of the compound whose functor is at this place.
+    #[inline(always)]
+    pub(crate) fn compound_shape(&self, place: usize) -> Shape
+        requires { Holds (⟦<Heap as Primitives>⟧.present self.now) (HeapWord.Structure place) }
+        ensures shape { IsShape self.now.atoms result (meaning (⟦<Heap as Primitives>⟧.present self.now) (HeapWord.Structure place)) }
+        ensures term { is_term (meaning (⟦<Heap as Primitives>⟧.present self.now) (HeapWord.Structure place)) ≡ true }
+        ensures each_once { EachOnce self.now.atoms }
+    {
+        let (name, count) = self.area.functor(place);
+        Shape::Compound(name, count)
+    }
+
+    /// How two integers of at most 64 bits compare; none where a word stands for anything else.
+    #[inline(always)]
+    fn compare_short(&self, one: &HeapWord, other: &HeapWord) -> Option<Ordering>
+        requires one { Holds (⟦<Heap as Primitives>⟧.present self.now) one.now }
+        requires other { Holds (⟦<Heap as Primitives>⟧.present self.now) other.now }
+        ensures { IfSome result (λ order. order ≡ term_cmp (meaning (⟦<Heap as Primitives>⟧.present self.now) one.now) (meaning (⟦<Heap as Primitives>⟧.present self.now) other.now)) }
+    {
+        let HeapWord::Int(first) = self.walked(*one) else {
+            return None;
+        };
+        let HeapWord::Int(second) = self.walked(*other) else {
+            return None;
+        };
+        Some(first.cmp(&second))
     }
 
     /// Binds the unbound variable of this number, whose cell is at this place, to what the word stands for; that one is
@@ -265,10 +325,7 @@ impl Primitives for Heap {
     fn shape(&self, word: HeapWord) -> Shape {
         match self.walked(word) {
             HeapWord::Var(place) => Shape::Var(self.area.number(place)),
-            HeapWord::Structure(place) => {
-                let (name, count) = self.area.functor(place);
-                Shape::Compound(name, count)
-            }
+            HeapWord::Structure(place) => self.compound_shape(place),
             HeapWord::Int(value) => Shape::Int(i128::from(value)),
             HeapWord::Boxed(place) => Shape::Int(self.area.wide(place)),
             HeapWord::Atom(name) => Shape::Atom(name),
@@ -485,8 +542,8 @@ impl Store for Heap {
         instantiate(self.alloc, self, pattern, variables)
     }
 
-    fn renew(&mut self, pattern: &Pattern, count: usize) -> Result<HeapWord, StoreFault> {
-        renew_in_place(self.alloc, self, pattern, count)
+    fn renew(&mut self, parts: &[Part], count: usize) -> Result<HeapWord, StoreFault> {
+        renew_in_place(self.alloc, self, parts, count)
     }
 
     fn unify(&mut self, first: HeapWord, second: HeapWord) -> Result<bool, StoreFault> {
@@ -495,7 +552,7 @@ impl Store for Heap {
 
     fn unify_head(
         &mut self,
-        head: &Pattern,
+        head: &[Part],
         goal: HeapWord,
         count: usize,
         words: &mut Vec<HeapWord>,
@@ -504,7 +561,10 @@ impl Store for Heap {
     }
 
     fn compare(&mut self, one: HeapWord, other: HeapWord) -> Result<Ordering, NoMemory> {
-        compare(self, one, other)
+        match self.compare_short(&one, &other) {
+            Some(order) => Ok(order),
+            None => compare(self, one, other),
+        }
     }
 
     fn mark(&mut self) -> HeapMark {

@@ -21,7 +21,7 @@ use super::patterns::{Places, written};
 use super::primitives::Primitives;
 use iso_atoms::Atom;
 use iso_model::{NoMemory, Numbering, Term};
-use iso_store_core::{Part, Pattern, StoreFault};
+use iso_store_core::{Part, StoreFault};
 use std::alloc::Global;
 
 /// Pushes the cell of an argument: the variable itself, where it has no cell yet.
@@ -207,32 +207,32 @@ fn make_part(
     }
 }
 
-/// The term of the pattern, whose variables have the numbers from `first` on.
+/// The term of the parts, whose variables have the numbers from `first` on.
 fn make_parts(
     alloc: Global,
     heap: &mut Heap,
     first: u64,
-    pattern: &Pattern,
+    parts: &[Part],
     places: &mut Vec<Option<usize>>,
 ) -> Result<Piece, StoreFault>
-    requires pattern { IsFitPattern (take heap.old.named heap.old.atoms) pattern.now.parts.items (length places.old.items) }
+    requires pattern { IsFitPattern (take heap.old.named heap.old.atoms) parts.now (length places.old.items) }
     requires cells { HaveCells heap.old.area.low first places.old.items }
     requires numbers { first + length places.old.items ≤ heap.old.next }
-    ensures made { (t : Tree) → IsPattern (take heap.old.named heap.old.atoms) pattern.now.parts.items t
+    ensures made { (t : Tree) → IsPattern (take heap.old.named heap.old.atoms) parts.now t
         → IfOk result (λ p. Makes (built heap.old first (length places.old.items)) (built heap.new first (length places.old.items)) p (apply (numbered first) t)) }
-    ensures size { (t : Tree) → IsPattern (take heap.old.named heap.old.atoms) pattern.now.parts.items t
+    ensures size { (t : Tree) → IsPattern (take heap.old.named heap.old.atoms) parts.now t
         → OnOk result (length heap.new.area.low ≡ length heap.old.area.low + cells_of 0 (λ n. n + 1) t) }
-    ensures few { (t : Tree) → IsPattern (take heap.old.named heap.old.atoms) pattern.now.parts.items t
+    ensures few { (t : Tree) → IsPattern (take heap.old.named heap.old.atoms) parts.now t
         → length heap.new.area.low ≤ length heap.old.area.low + cells_of 0 (λ n. n + 1) t }
     ensures cells { HaveCells heap.new.area.low first places.new.items }
     ensures count { length places.new.items ≡ length places.old.items }
-    ensures others { (t : Tree) → IsPattern (take heap.old.named heap.old.atoms) pattern.now.parts.items t
+    ensures others { (t : Tree) → IsPattern (take heap.old.named heap.old.atoms) parts.now t
         → (k : ℕ) → occurs k t ≡ false → slice_get places.new.items k ≡ slice_get places.old.items k }
     ensures goes_on { GoesOn first heap.old heap.new }
     ensures full { result ≡ Err StoreFault.Full → heap.new.area.capacity ≤ length heap.new.area.low + length heap.new.area.high }
 {
     let mut pieces = Vec::new(alloc);
-    for part in &pattern.parts {
+    for part in parts {
         make_part(heap, first, *part, &mut pieces, places)?;
     }
     let Some(piece) = pieces.pop() else {
@@ -273,25 +273,25 @@ pub(crate) fn build_in_place(
     let pattern = written(alloc, heap, term, Places::Among(&variables))?;
     heap.know_names();
     let mut places = no_places(alloc, variables.len())?;
-    match make_parts(alloc, heap, first, &pattern, &mut places)? {
+    match make_parts(alloc, heap, first, pattern.parts.as_slice(), &mut places)? {
         Piece::Word(word) => Ok(word),
         Piece::Variable(_) => unreachable!(),
     }
 }
 
-/// The term of a pattern, with new variables, numbered from the next number on by their places, so many.
+/// The term of the parts, with new variables, numbered from the next number on by their places, so many.
 pub(crate) fn renew_in_place(
     alloc: Global,
     heap: &mut Heap,
-    pattern: &Pattern,
+    parts: &[Part],
     count: usize,
 ) -> Result<HeapWord, StoreFault>
-    requires pattern { IsFitPattern heap.old.atoms pattern.now.parts.items count }
+    requires pattern { IsFitPattern heap.old.atoms parts.now count }
     requires next { heap.old.next + count < 2 ^ 63 }
-    ensures made { (t : Tree) → IsPattern heap.old.atoms pattern.now.parts.items t
+    ensures made { (t : Tree) → IsPattern heap.old.atoms parts.now t
         → IfOk result (λ w. Makes (⟦<Heap as Primitives>⟧.present heap.old) (⟦<Heap as Primitives>⟧.present heap.new) w (renamed heap.old.next t)) }
     ensures numbers { OnOk result (MovesOn (⟦<Heap as Primitives>⟧.present heap.old) (⟦<Heap as Primitives>⟧.present heap.new) count) }
-    ensures cells { (t : Tree) → IsPattern heap.old.atoms pattern.now.parts.items t
+    ensures cells { (t : Tree) → IsPattern heap.old.atoms parts.now t
         → Grows (⟦<Heap as Primitives>⟧.present heap.old) (⟦<Heap as Primitives>⟧.present heap.new) (size t) (variable_count t) }
     ensures full { result ≡ Err StoreFault.Full → ⟦<Heap as Primitives>⟧.full heap.new }
     ensures names { heap.new.atoms ≡ heap.old.atoms }
@@ -300,7 +300,7 @@ pub(crate) fn renew_in_place(
     let first = heap.reserve(count as u64);
     heap.know_names();
     let mut places = no_places(alloc, count)?;
-    match make_parts(alloc, heap, first, pattern, &mut places)? {
+    match make_parts(alloc, heap, first, parts, &mut places)? {
         Piece::Word(word) => Ok(word),
         Piece::Variable(place) => Primitives::variable(heap, first + place as u64),
     }

@@ -196,12 +196,16 @@ impl Cells for Heap {
 
     #[inline(always)]
     fn is_apart(&self, variable: HeapWord, word: HeapWord) -> bool {
-        Primitives::is_apart(self, variable, word)
+        let HeapWord::Var(place) = self.walked_near(variable) else {
+            return false;
+        };
+        let target = self.walked(word);
+        self.is_end_apart(place, &target)
     }
 
     #[inline(always)]
     fn bind_made(&mut self, variable: HeapWord, compound: HeapWord) -> Result<(), StoreFault> {
-        let HeapWord::Var(place) = self.walked(variable) else {
+        let HeapWord::Var(place) = self.walked_near(variable) else {
             unreachable!()
         };
         let number = self.area.number(place);

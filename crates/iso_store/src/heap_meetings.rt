@@ -142,6 +142,36 @@ fn meet_shapes(heap: &Heap, one: HeapWord, other: HeapWord) -> Meeting
     }
 }
 
+/// How two compounds meet whose functors are at these places.
+#[inline(always)]
+fn meet_compounds(heap: &Heap, one: usize, other: usize) -> Meeting
+    requires one { Holds (⟦<Heap as Primitives>⟧.present heap.now) (HeapWord.Structure one) }
+    requires other { Holds (⟦<Heap as Primitives>⟧.present heap.now) (HeapWord.Structure other) }
+    ensures meeting { IsMeeting result (meaning (⟦<Heap as Primitives>⟧.present heap.now) (HeapWord.Structure one)) (meaning (⟦<Heap as Primitives>⟧.present heap.now) (HeapWord.Structure other)) }
+    ensures one_term { is_term (meaning (⟦<Heap as Primitives>⟧.present heap.now) (HeapWord.Structure one)) ≡ true }
+    ensures other_term { is_term (meaning (⟦<Heap as Primitives>⟧.present heap.now) (HeapWord.Structure other)) ≡ true }
+{
+    meet(heap.compound_shape(one), heap.compound_shape(other))
+}
+
+/// As `meet_shapes`, with compounds told apart at once.
+#[inline(always)]
+fn meet_bodies(heap: &Heap, one: HeapWord, other: HeapWord) -> Meeting
+    requires one { Holds (⟦<Heap as Primitives>⟧.present heap.now) one }
+    requires other { Holds (⟦<Heap as Primitives>⟧.present heap.now) other }
+    ensures meeting { IsMeeting result (meaning (⟦<Heap as Primitives>⟧.present heap.now) one) (meaning (⟦<Heap as Primitives>⟧.present heap.now) other) }
+    ensures one_term { is_term (meaning (⟦<Heap as Primitives>⟧.present heap.now) one) ≡ true }
+    ensures other_term { is_term (meaning (⟦<Heap as Primitives>⟧.present heap.now) other) ≡ true }
+{
+    let HeapWord::Structure(first) = one else {
+        return meet_shapes(heap, one, other);
+    };
+    let HeapWord::Structure(second) = other else {
+        return meet_shapes(heap, one, other);
+    };
+    meet_compounds(heap, first, second)
+}
+
 /// How two words meet that are at the end of their bindings, the first of which is no variable.
 #[inline(always)]
 fn meet_bound(heap: &mut Heap, one: HeapWord, other: HeapWord) -> Result<Meeting, StoreFault>
@@ -168,7 +198,7 @@ fn meet_bound(heap: &mut Heap, one: HeapWord, other: HeapWord) -> Result<Meeting
     if one == other {
         return Ok(Meeting::Same);
     }
-    Ok(meet_shapes(heap, one, other))
+    Ok(meet_bodies(heap, one, other))
 }
 
 /// How two words meet that are at the end of their bindings. A variable is bound at once where it shows without a

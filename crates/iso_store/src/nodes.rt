@@ -343,8 +343,8 @@ impl Store for Nodes {
         instantiate(self.alloc, self, pattern, variables)
     }
 
-    fn renew(&mut self, pattern: &Pattern, count: usize) -> Result<usize, StoreFault> {
-        renew(self.alloc, self, pattern, count)
+    fn renew(&mut self, parts: &[Part], count: usize) -> Result<usize, StoreFault> {
+        renew(self.alloc, self, parts, count)
     }
 
     fn unify(&mut self, first: usize, second: usize) -> Result<bool, StoreFault> {
@@ -353,7 +353,7 @@ impl Store for Nodes {
 
     fn unify_head(
         &mut self,
-        head: &Pattern,
+        head: &[Part],
         goal: usize,
         count: usize,
         words: &mut Vec<usize>,

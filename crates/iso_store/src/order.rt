@@ -213,6 +213,7 @@ fn compare_alike<S: Primitives>(
 
 /// How what the words stand for compares. The error is that memory was refused; unless both are compounds of one name
 /// with as many arguments, none is asked for.
+#[inline(never)]
 pub(crate) fn compare<S: Primitives>(
     store: &mut S,
     one: S::Word,

@@ -16,16 +16,25 @@ pub(crate) fn farther(reach: usize, place: usize, target: usize) -> usize
     }
 }
 
+/// The place that the word leads to.
+#[inline(always)]
+pub(crate) fn place_of(word: &HeapWord) -> Option<usize>
+    ensures { result ≡ word_place word.now }
+{
+    match word {
+        HeapWord::Var(place) | HeapWord::Structure(place) | HeapWord::Boxed(place) => Some(*place),
+        HeapWord::Int(_) | HeapWord::Atom(_) => None,
+    }
+}
+
 /// How far they lead once one leads from `place` to where this word leads, and the others no farther than `reach`.
 pub(crate) fn farther_to(reach: usize, place: usize, word: &HeapWord) -> usize
     ensures others { reach ≤ result }
     ensures this_one { (j : ℕ) → word_place word.now ≡ Some j → place < j → j ≤ result }
 {
-    match word {
-        HeapWord::Var(target) | HeapWord::Structure(target) | HeapWord::Boxed(target) => {
-            farther(reach, place, *target)
-        }
-        HeapWord::Int(_) | HeapWord::Atom(_) => reach,
+    match place_of(word) {
+        Some(target) => farther(reach, place, target),
+        None => reach,
     }
 }
 

@@ -5,6 +5,7 @@ ghost use Rattle.std.specs.List.{All, slice_get};
 ghost use Rattle.iso_model.specs.Terms.Trees.{Tree, Variable, arities_fit};
 ghost use Rattle.iso_store_core.specs.Presents.{Present, Holds, meaning};
 ghost use Rattle.iso_store_core.specs.Arguments.{arguments, listed};
+ghost use Rattle.iso_store_core.specs.Exact.{are_exact};
 ghost use Rattle.iso_store_core.specs.Patterns.{IsNamed, IsPattern, HasPlaces};
 ghost use Rattle.iso_store.specs.Writing.{IsFitPattern};
 ghost use Rattle.iso_store.specs.Unifying.{IsCompound};
@@ -15,7 +16,7 @@ ghost use Rattle.iso_store.specs.declared.reading.Later as waiting;
 use super::primitives::Primitives;
 use iso_atoms::Atom;
 use iso_model::NoMemory;
-use iso_store_core::{Part, Pattern, Shape};
+use iso_store_core::{Part, Shape};
 
 /// A part of a head that is unified with this word when all is read: its parts from the one place on to the other.
 #[derive(Clone, Copy)]
@@ -65,18 +66,20 @@ pub(crate) fn begin<W: Copy>(reading: &mut Reading<W>, count: usize) -> Result<(
 }
 
 /// Where the parts begin of the term whose last part is the one before this place.
-fn start_of(head: &Pattern, past: usize) -> usize
+fn start_of(head: &[Part], past: usize) -> usize
     requires some { 0 < past }
-    requires within { past ≤ length head.now.parts.items }
+    requires within { past ≤ length head.now }
+    requires exact { are_exact head.now 0 ≡ true }
     ensures earlier { result < past }
-    ensures between { (names : List (List ℕ)) → All (IsNamed names) head.now.parts.items → IsBetween names head.now.parts.items result past }
+    ensures between { (names : List (List ℕ)) → All (IsNamed names) head.now → IsBetween names head.now result past }
 {
     let mut from = past;
     let mut needed = 1;
     while needed > 0 {
         from -= 1;
         needed -= 1;
-        if let Part::Compound(_, count) = head.parts[from] {
+        let part = head[from];
+        if let Part::Compound(_, count) = part {
             needed += count;
         }
     }
@@ -103,17 +106,18 @@ fn leave_arguments<S: Primitives>(
 
 /// Leaves the part before this place to be unified with the word when all is read: how many parts are left.
 fn read_later<W: Copy>(
-    head: &Pattern,
+    head: &[Part],
     at: usize,
     word: W,
     later: &mut Vec<Later<W>>,
 ) -> Result<Option<usize>, NoMemory>
     requires some { 0 < at }
-    requires within { at ≤ length head.now.parts.items }
+    requires within { at ≤ length head.now }
+    requires exact { are_exact head.now 0 ≡ true }
     ensures read { (p : Present W) (names : List (List ℕ)) (t : Tree) (values : List (Option W)) (left : List Tree)
-        → IsPattern names head.now.parts.items t → arities_fit t ≡ true → HasPlaces (length values) t → Holds p word
-        → IsRead p names head.now.parts.items (length values) values later.old.items (left ++ meaning p word ∷ []) at
-        → IfOk result (IsReadOn p names head.now.parts.items (length values) values values later.old.items later.new.items (left ++ meaning p word ∷ []) left at) }
+        → IsPattern names head.now t → arities_fit t ≡ true → HasPlaces (length values) t → Holds p word
+        → IsRead p names head.now (length values) values later.old.items (left ++ meaning p word ∷ []) at
+        → IfOk result (IsReadOn p names head.now (length values) values values later.old.items later.new.items (left ++ meaning p word ∷ []) left at) }
 {
     let from = start_of(head, at);
     later.push(Later {
@@ -128,7 +132,7 @@ fn read_later<W: Copy>(
 /// where nothing makes it and the word equal.
 fn read_compound<S: Primitives>(
     store: &S,
-    head: &Pattern,
+    head: &[Part],
     at: usize,
     name: Atom,
     count: usize,
@@ -138,14 +142,15 @@ fn read_compound<S: Primitives>(
     left: &mut Vec<Unread<S::Word>>,
     inner: &mut Unread<S::Word>,
 ) -> Result<Option<usize>, NoMemory>
-    requires count { IsFitPattern (S.names store.now) head.now.parts.items (length values.now.items) }
+    requires count { IsFitPattern (S.names store.now) head.now (length values.now.items) }
+    requires exact { are_exact head.now 0 ≡ true }
     requires some { 0 < at }
     requires word { Holds (S.present store.now) word }
     requires left { AreUnread (S.present store.now) left.old.items }
     requires inner { MayHaveArguments (S.present store.now) inner.old }
-    requires shows { (ts : List Tree) × (a : Tree) × Shows (S.names store.now) head.now.parts.items at (shapes.Compound name count) ts a }
-    requires read { IsRead (S.present store.now) (S.names store.now) head.now.parts.items (length values.now.items) values.now.items later.old.items (left_terms (S.present store.now) (left.old.items ++ inner.old ∷ []) ++ meaning (S.present store.now) word ∷ []) at }
-    ensures read { IfOk result (IsReadOn (S.present store.now) (S.names store.now) head.now.parts.items (length values.now.items)
+    requires shows { (ts : List Tree) × (a : Tree) × Shows (S.names store.now) head.now at (shapes.Compound name count) ts a }
+    requires read { IsRead (S.present store.now) (S.names store.now) head.now (length values.now.items) values.now.items later.old.items (left_terms (S.present store.now) (left.old.items ++ inner.old ∷ []) ++ meaning (S.present store.now) word ∷ []) at }
+    ensures read { IfOk result (IsReadOn (S.present store.now) (S.names store.now) head.now (length values.now.items)
         values.now.items values.now.items later.old.items later.new.items (left_terms (S.present store.now) (left.old.items ++ inner.old ∷ []) ++ meaning (S.present store.now) word ∷ []) (left_terms (S.present store.now) (left.new.items ++ inner.new ∷ [])) at) }
     ensures left { OnOk result (AreUnread (S.present store.now) left.new.items) }
     ensures inner { OnOk result (MayHaveArguments (S.present store.now) inner.new) }
@@ -177,21 +182,22 @@ fn read_compound<S: Primitives>(
 /// makes it and the word equal.
 fn read_constant<S: Primitives>(
     store: &S,
-    head: &Pattern,
+    head: &[Part],
     at: usize,
     shape: Shape,
     word: S::Word,
     values: &Vec<Option<S::Word>>,
     later: &mut Vec<Later<S::Word>>,
 ) -> Result<Option<usize>, NoMemory>
-    requires count { IsFitPattern (S.names store.now) head.now.parts.items (length values.now.items) }
+    requires count { IsFitPattern (S.names store.now) head.now (length values.now.items) }
+    requires exact { are_exact head.now 0 ≡ true }
     requires some { 0 < at }
     requires word { Holds (S.present store.now) word }
     requires constant { (name count : ℕ) → shape ≢ shapes.Compound name count }
-    requires shows { (ts : List Tree) × (a : Tree) × Shows (S.names store.now) head.now.parts.items at shape ts a }
-    requires read { (ws : List Tree) × IsRead (S.present store.now) (S.names store.now) head.now.parts.items (length values.now.items) values.now.items later.old.items (ws ++ meaning (S.present store.now) word ∷ []) at }
-    ensures read { (ws : List Tree) → IsRead (S.present store.now) (S.names store.now) head.now.parts.items (length values.now.items) values.now.items later.old.items (ws ++ meaning (S.present store.now) word ∷ []) at
-        → IfOk result (IsReadOn (S.present store.now) (S.names store.now) head.now.parts.items (length values.now.items) values.now.items values.now.items later.old.items later.new.items (ws ++ meaning (S.present store.now) word ∷ []) ws at) }
+    requires shows { (ts : List Tree) × (a : Tree) × Shows (S.names store.now) head.now at shape ts a }
+    requires read { (ws : List Tree) × IsRead (S.present store.now) (S.names store.now) head.now (length values.now.items) values.now.items later.old.items (ws ++ meaning (S.present store.now) word ∷ []) at }
+    ensures read { (ws : List Tree) → IsRead (S.present store.now) (S.names store.now) head.now (length values.now.items) values.now.items later.old.items (ws ++ meaning (S.present store.now) word ∷ []) at
+        → IfOk result (IsReadOn (S.present store.now) (S.names store.now) head.now (length values.now.items) values.now.items values.now.items later.old.items later.new.items (ws ++ meaning (S.present store.now) word ∷ []) ws at) }
 {
     let found = store.shape(word);
     if let Shape::Var(_) = found {
@@ -207,21 +213,22 @@ fn read_constant<S: Primitives>(
 /// else they are unified later. How many parts are left.
 fn read_variable<S: Primitives>(
     store: &S,
-    head: &Pattern,
+    head: &[Part],
     at: usize,
     place: usize,
     word: S::Word,
     values: &mut Vec<Option<S::Word>>,
     later: &mut Vec<Later<S::Word>>,
 ) -> Result<Option<usize>, NoMemory>
-    requires count { IsFitPattern (S.names store.now) head.now.parts.items (length values.old.items) }
+    requires count { IsFitPattern (S.names store.now) head.now (length values.old.items) }
+    requires exact { are_exact head.now 0 ≡ true }
     requires some { 0 < at }
     requires word { Holds (S.present store.now) word }
     requires place { place < length values.old.items }
-    requires variable { first_terms (S.names store.now) head.now.parts.items at ≡ first_terms (S.names store.now) head.now.parts.items (at - 1) ++ Variable place ∷ [] }
-    requires read { (ws : List Tree) × IsRead (S.present store.now) (S.names store.now) head.now.parts.items (length values.old.items) values.old.items later.old.items (ws ++ meaning (S.present store.now) word ∷ []) at }
-    ensures read { (ws : List Tree) → IsRead (S.present store.now) (S.names store.now) head.now.parts.items (length values.old.items) values.old.items later.old.items (ws ++ meaning (S.present store.now) word ∷ []) at
-        → IfOk result (IsReadOn (S.present store.now) (S.names store.now) head.now.parts.items (length values.old.items) values.old.items values.new.items later.old.items later.new.items (ws ++ meaning (S.present store.now) word ∷ []) ws at) }
+    requires variable { first_terms (S.names store.now) head.now at ≡ first_terms (S.names store.now) head.now (at - 1) ++ Variable place ∷ [] }
+    requires read { (ws : List Tree) × IsRead (S.present store.now) (S.names store.now) head.now (length values.old.items) values.old.items later.old.items (ws ++ meaning (S.present store.now) word ∷ []) at }
+    ensures read { (ws : List Tree) → IsRead (S.present store.now) (S.names store.now) head.now (length values.old.items) values.old.items later.old.items (ws ++ meaning (S.present store.now) word ∷ []) at
+        → IfOk result (IsReadOn (S.present store.now) (S.names store.now) head.now (length values.old.items) values.old.items values.new.items later.old.items later.new.items (ws ++ meaning (S.present store.now) word ∷ []) ws at) }
 {
     match values[place] {
         None => {
@@ -235,7 +242,7 @@ fn read_variable<S: Primitives>(
 /// Reads the part before this place for the word: how many parts are left, none where nothing makes them equal.
 fn read_part<S: Primitives>(
     store: &S,
-    head: &Pattern,
+    head: &[Part],
     at: usize,
     word: S::Word,
     values: &mut Vec<Option<S::Word>>,
@@ -243,18 +250,20 @@ fn read_part<S: Primitives>(
     left: &mut Vec<Unread<S::Word>>,
     inner: &mut Unread<S::Word>,
 ) -> Result<Option<usize>, NoMemory>
-    requires count { IsFitPattern (S.names store.now) head.now.parts.items (length values.old.items) }
+    requires count { IsFitPattern (S.names store.now) head.now (length values.old.items) }
+    requires exact { are_exact head.now 0 ≡ true }
     requires some { 0 < at }
     requires word { Holds (S.present store.now) word }
     requires left { AreUnread (S.present store.now) left.old.items }
     requires inner { MayHaveArguments (S.present store.now) inner.old }
-    requires read { IsRead (S.present store.now) (S.names store.now) head.now.parts.items (length values.old.items) values.old.items later.old.items (left_terms (S.present store.now) (left.old.items ++ inner.old ∷ []) ++ meaning (S.present store.now) word ∷ []) at }
-    ensures read { IfOk result (IsReadOn (S.present store.now) (S.names store.now) head.now.parts.items (length values.old.items)
+    requires read { IsRead (S.present store.now) (S.names store.now) head.now (length values.old.items) values.old.items later.old.items (left_terms (S.present store.now) (left.old.items ++ inner.old ∷ []) ++ meaning (S.present store.now) word ∷ []) at }
+    ensures read { IfOk result (IsReadOn (S.present store.now) (S.names store.now) head.now (length values.old.items)
         values.old.items values.new.items later.old.items later.new.items (left_terms (S.present store.now) (left.old.items ++ inner.old ∷ []) ++ meaning (S.present store.now) word ∷ []) (left_terms (S.present store.now) (left.new.items ++ inner.new ∷ [])) at) }
     ensures left { OnOk result (AreUnread (S.present store.now) left.new.items) }
     ensures inner { OnOk result (MayHaveArguments (S.present store.now) inner.new) }
 {
-    let shape = match head.parts[at - 1] {
+    let part = head[at - 1];
+    let shape = match part {
         Part::Variable(place) => {
             return read_variable(store, head, at, place, word, values, later);
         }
@@ -273,19 +282,20 @@ fn read_part<S: Primitives>(
 /// compound, the last one first: each is its variable's value. How many arguments and how many parts are left.
 fn read_variables<S: Primitives>(
     store: &S,
-    head: &Pattern,
+    head: &[Part],
     past: usize,
     word: S::Word,
     many: usize,
     values: &mut Vec<Option<S::Word>>,
 ) -> (usize, usize)
     requires unread { 0 < many → HasArguments (S.present store.now) word many }
-    requires count { IsFitPattern (S.names store.now) head.now.parts.items (length values.old.items) }
-    requires read { (front : List Tree) × (later : List (waiting.Later S.Word)) × IsRead (S.present store.now) (S.names store.now) head.now.parts.items (length values.old.items) values.old.items later
+    requires count { IsFitPattern (S.names store.now) head.now (length values.old.items) }
+    requires exact { are_exact head.now 0 ≡ true }
+    requires read { (front : List Tree) × (later : List (waiting.Later S.Word)) × IsRead (S.present store.now) (S.names store.now) head.now (length values.old.items) values.old.items later
         (front ++ first_arguments (S.present store.now) word many) past }
-    ensures read { (front : List Tree) (later : List (waiting.Later S.Word)) → IsRead (S.present store.now) (S.names store.now) head.now.parts.items (length values.old.items) values.old.items later
+    ensures read { (front : List Tree) (later : List (waiting.Later S.Word)) → IsRead (S.present store.now) (S.names store.now) head.now (length values.old.items) values.old.items later
         (front ++ first_arguments (S.present store.now) word many) past
-        → IsReadTo (S.present store.now) (S.names store.now) head.now.parts.items (length values.old.items) values.old.items values.new.items later later
+        → IsReadTo (S.present store.now) (S.names store.now) head.now (length values.old.items) values.old.items values.new.items later later
         (front ++ first_arguments (S.present store.now) word many) (front ++ first_arguments (S.present store.now) word result.0) past result.1 }
     ensures values { length values.new.items ≡ length values.old.items }
     ensures fewer { result.0 ≤ many }
@@ -294,7 +304,8 @@ fn read_variables<S: Primitives>(
     let mut count = many;
     let mut at = past;
     while count > 0 {
-        let Part::Variable(place) = head.parts[at - 1] else {
+        let part = head[at - 1];
+        let Part::Variable(place) = part else {
             return (count, at);
         };
         match values[place] {
@@ -312,7 +323,7 @@ fn read_variables<S: Primitives>(
 /// nothing where no part is left.
 fn next_word<S: Primitives>(
     store: &S,
-    head: &Pattern,
+    head: &[Part],
     past: usize,
     values: &mut Vec<Option<S::Word>>,
     left: &mut Vec<Unread<S::Word>>,
@@ -320,11 +331,12 @@ fn next_word<S: Primitives>(
 ) -> Option<NextPart<S::Word>>
     requires left { AreUnread (S.present store.now) left.old.items }
     requires inner { MayHaveArguments (S.present store.now) inner.old }
-    requires count { IsFitPattern (S.names store.now) head.now.parts.items (length values.old.items) }
-    requires read { (later : List (waiting.Later S.Word)) × IsRead (S.present store.now) (S.names store.now) head.now.parts.items (length values.old.items) values.old.items later (left_terms (S.present store.now) (left.old.items ++ inner.old ∷ [])) past }
+    requires count { IsFitPattern (S.names store.now) head.now (length values.old.items) }
+    requires exact { are_exact head.now 0 ≡ true }
+    requires read { (later : List (waiting.Later S.Word)) × IsRead (S.present store.now) (S.names store.now) head.now (length values.old.items) values.old.items later (left_terms (S.present store.now) (left.old.items ++ inner.old ∷ [])) past }
     ensures read { (later : List (waiting.Later S.Word))
-        → IsRead (S.present store.now) (S.names store.now) head.now.parts.items (length values.old.items) values.old.items later (left_terms (S.present store.now) (left.old.items ++ inner.old ∷ [])) past
-        → IsNext (S.present store.now) (S.names store.now) head.now.parts.items (length values.old.items) values.old.items values.new.items later (left_terms (S.present store.now) (left.old.items ++ inner.old ∷ [])) (left_terms (S.present store.now) (left.new.items ++ inner.new ∷ [])) past result }
+        → IsRead (S.present store.now) (S.names store.now) head.now (length values.old.items) values.old.items later (left_terms (S.present store.now) (left.old.items ++ inner.old ∷ [])) past
+        → IsNext (S.present store.now) (S.names store.now) head.now (length values.old.items) values.old.items values.new.items later (left_terms (S.present store.now) (left.old.items ++ inner.old ∷ [])) (left_terms (S.present store.now) (left.new.items ++ inner.new ∷ [])) past result }
     ensures left { AreUnread (S.present store.now) left.new.items }
     ensures inner { IfSome result (λ _. MayHaveArguments (S.present store.now) inner.new) }
     ensures values { length values.new.items ≡ length values.old.items }
@@ -349,25 +361,26 @@ fn next_word<S: Primitives>(
 /// False where nothing makes them equal.
 pub(crate) fn read_head<S: Primitives>(
     store: &S,
-    head: &Pattern,
+    head: &[Part],
     goal: S::Word,
     values: &mut Vec<Option<S::Word>>,
     later: &mut Vec<Later<S::Word>>,
     left: &mut Vec<Unread<S::Word>>,
 ) -> Result<bool, NoMemory>
     requires goal { Holds (S.present store.now) goal }
-    requires count { IsFitPattern (S.names store.now) head.now.parts.items (length values.old.items) }
+    requires count { IsFitPattern (S.names store.now) head.now (length values.old.items) }
+    requires exact { are_exact head.now 0 ≡ true }
     requires values { (x : ℕ) → x < length values.old.items → slice_get values.old.items x ≡ Some None }
     requires later { later.old.items ≡ [] }
     requires left { left.old.items ≡ [] }
-    ensures read { IfOk result (IsHeadRead (S.present store.now) (S.names store.now) head.now.parts.items (length values.old.items) goal values.new.items later.new.items) }
+    ensures read { IfOk result (IsHeadRead (S.present store.now) (S.names store.now) head.now (length values.old.items) goal values.new.items later.new.items) }
 {
     let mut inner = Unread {
         word: goal,
         count: 0,
     };
     let mut word = goal;
-    let mut at = head.parts.len();
+    let mut at = head.len();
     loop {
         let met = read_part(store, head, at, word, values, later, left, &mut inner)?;
         let Some(rest) = met else {

@@ -14,7 +14,7 @@ ghost use Rattle.iso_store.specs.Renewals.{HaveWords, new_for, new_of};
 
 use super::instances::make_part;
 use super::primitives::Primitives;
-use iso_store_core::{Part, Pattern, StoreFault};
+use iso_store_core::{Part, StoreFault};
 use std::alloc::Global;
 
 /// The word of the variable of this place, which comes where it has none yet.
@@ -80,19 +80,19 @@ fn renew_part<S: Primitives>(
     make_part(store, part, &[], words)
 }
 
-/// The term of the pattern, with new variables, numbered from the next number on by their places, so many.
+/// The term of the parts, with new variables, numbered from the next number on by their places, so many.
 pub(crate) fn renew<S: Primitives>(
     alloc: Global,
     store: &mut S,
-    pattern: &Pattern,
+    parts: &[Part],
     count: usize,
 ) -> Result<S::Word, StoreFault>
-    requires pattern { IsFitPattern (S.names store.old) pattern.now.parts.items count }
+    requires pattern { IsFitPattern (S.names store.old) parts.now count }
     requires next { (S.present store.old).next + count < 2 ^ 63 }
-    ensures made { (t : Tree) → IsPattern (S.names store.old) pattern.now.parts.items t
+    ensures made { (t : Tree) → IsPattern (S.names store.old) parts.now t
         → IfOk result (λ w. Makes (S.present store.old) (S.present store.new) w (renamed (S.present store.old).next t)) }
     ensures numbers { OnOk result (MovesOn (S.present store.old) (S.present store.new) count) }
-    ensures cells { (t : Tree) → IsPattern (S.names store.old) pattern.now.parts.items t
+    ensures cells { (t : Tree) → IsPattern (S.names store.old) parts.now t
         → Grows (S.present store.old) (S.present store.new) (variable_count t + cells_of S.atomic S.width t) (variable_count t) }
     ensures full { result ≡ Err StoreFault.Full → S.full store.new }
     ensures names { S.names store.new ≡ S.names store.old }
@@ -101,7 +101,7 @@ pub(crate) fn renew<S: Primitives>(
     let first = store.reserve(count as u64);
     let mut known = Vec::from_elem(alloc, None, count)?;
     let mut words = Vec::new(alloc);
-    for part in &pattern.parts {
+    for part in parts {
         renew_part(store, first, *part, &mut known, &mut words)?;
     }
     let Some(word) = words.pop() else {

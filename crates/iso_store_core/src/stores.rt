@@ -13,10 +13,11 @@ ghost use Rattle.iso_store_core.specs.Presents.{Present, Holds, meaning, KeepsWo
 ghost use Rattle.iso_store_core.specs.Arguments.{arity, argument};
 ghost use Rattle.iso_store_core.specs.Shapes.{IsShape};
 ghost use Rattle.iso_store_core.specs.Copying.{cells_of, wide_cells};
+ghost use Rattle.iso_store_core.specs.Exact.{are_exact};
 ghost use Rattle.iso_store_core.specs.Patterns.{IsPattern, HasPlaces, at_places};
 ghost use Rattle.iso_store_core.specs.Heads.{IsHeadMet};
 
-use super::patterns::Pattern;
+use super::patterns::{Part, Pattern};
 use super::shapes::{Shape, StoreFault};
 use iso_atoms::Atom;
 use iso_model::{NoMemory, Term};
@@ -186,16 +187,16 @@ pub trait Store {
         ensures names { names self.new ≡ names self.old }
         ensures marks { KeepsMarks (stands self.old) (stands self.new) };
 
-    /// The term of a pattern of this store, well formed, with new variables, numbered from the next number on by
+    /// The term of the parts of a pattern of this store, well formed, with new variables, numbered from the next number on by
     /// their places, so many. No cell comes for a variable that doesn't occur. The caller keeps the next number below
     /// 2^63.
-    fn renew(&mut self, pattern: &Pattern, count: usize) -> Result<Self::Word, StoreFault>
-        requires pattern { (t : Tree) × IsPattern (names self.old) pattern.now.parts.items t × (arities_fit t ≡ true) × HasPlaces count t }
+    fn renew(&mut self, parts: &[Part], count: usize) -> Result<Self::Word, StoreFault>
+        requires pattern { (t : Tree) × IsPattern (names self.old) parts.now t × (arities_fit t ≡ true) × HasPlaces count t }
         requires next { (present self.old).next + count < 2 ^ 63 }
-        ensures made { (t : Tree) → IsPattern (names self.old) pattern.now.parts.items t
+        ensures made { (t : Tree) → IsPattern (names self.old) parts.now t
             → IfOk result (λ w. Makes (present self.old) (present self.new) w (renamed (present self.old).next t)) }
         ensures numbers { OnOk result (MovesOn (present self.old) (present self.new) count) }
-        ensures cells { (t : Tree) → IsPattern (names self.old) pattern.now.parts.items t → Grows (present self.old) (present self.new) (built_cells t) (variable_count t) }
+        ensures cells { (t : Tree) → IsPattern (names self.old) parts.now t → Grows (present self.old) (present self.new) (built_cells t) (variable_count t) }
         ensures full { result ≡ Err StoreFault.Full → full self.new }
         ensures names { names self.new ≡ names self.old }
         ensures marks { KeepsMarks (stands self.old) (stands self.new) };
@@ -211,24 +212,25 @@ pub trait Store {
         ensures names { names self.new ≡ names self.old }
         ensures marks { KeepsMarks (stands self.old) (stands self.new) };
 
-    /// Unifies the goal with the head of a clause, whose pattern this is, read part by part (7.7.10), and says
+    /// Unifies the goal with the head of a clause, which has these parts, read one by one (7.7.10), and says
     /// whether they unify. The clause's variables, so many, get the next numbers, and the list has words of their
     /// values in place of what it had. False, where nothing makes the two equal, leaves it open what is bound, and
     /// what the list has. The caller keeps the next number below 2^63.
     fn unify_head(
         &mut self,
-        head: &Pattern,
+        head: &[Part],
         goal: Self::Word,
         count: usize,
         words: &mut Vec<Self::Word>,
     ) -> Result<bool, StoreFault>
         requires goal { Holds (present self.old) goal }
-        requires head { (t : Tree) × IsPattern (names self.old) head.now.parts.items t × (arities_fit t ≡ true) × HasPlaces count t }
+        requires head { (t : Tree) × IsPattern (names self.old) head.now t × (arities_fit t ≡ true) × HasPlaces count t }
+        requires exact { are_exact head.now 0 ≡ true }
         requires next { (present self.old).next + count < 2 ^ 63 }
-        ensures met { (t : Tree) → IsPattern (names self.old) head.now.parts.items t
+        ensures met { (t : Tree) → IsPattern (names self.old) head.now t
             → IfOk result (λ answer. IsHeadMet (present self.old) (present self.new) goal t count words.new.items answer) }
         ensures substitution { IsSubstitution (present self.new).substitution }
-        ensures cells { (t : Tree) → IsPattern (names self.old) head.now.parts.items t → Grows (present self.old) (present self.new) (count + cells_of atomic_cells (λ n. n + 1) t) count }
+        ensures cells { (t : Tree) → IsPattern (names self.old) head.now t → Grows (present self.old) (present self.new) (count + cells_of atomic_cells (λ n. n + 1) t) count }
         ensures full { result ≡ Err StoreFault.Full → full self.new }
         ensures names { names self.new ≡ names self.old }
         ensures marks { KeepsMarks (stands self.old) (stands self.new) };

@@ -14,7 +14,7 @@ ghost use Rattle.iso_text.specs.Forms.{form_of};
 
 use super::reading::codes_of;
 use super::spelling::equate_spelled;
-use iso_lib_core::lists::{elements, see_partial_list, tail};
+use iso_lib_core::lists::{elements, see_partial_list};
 use iso_lib_core::{Fault, Reply, culprits, equate_atom, errors};
 use iso_store_core::{Shape, Store};
 use std::alloc::Global;
@@ -64,11 +64,11 @@ fn atom_of_list<S: Store>(
     ensures cells { Takes S.Store store.old store.new 0 }
     ensures rest { Retains S.Store store.old store.new }
 {
-    if matches!(store.shape(tail(store, list)), Shape::Var(_)) {
+    let parts = elements(alloc, store, list)?;
+    if matches!(store.shape(parts.tail), Shape::Var(_)) {
         return Err(Fault::Raise(errors::instantiation(alloc, by, 2)?));
     }
-    let words = elements(alloc, store, list)?.elements;
-    equate_read(alloc, store, form, word, words.as_slice(), by)
+    equate_read(alloc, store, form, word, parts.elements.as_slice(), by)
 }
 
 /// What a goal of `atom_chars/2` or `atom_codes/2` comes to, this procedure. The errors: one is raised, the store is

@@ -43,7 +43,7 @@ pub(crate) fn codes_of<S: Store>(
     requires words { All (λ w. Holds (S.present store.now) w) words.now }
     ensures { IsText (elements_codes (form_of form) (map (meaning (S.present store.now)) words.now) (key by.now 2)) result }
 {
-    let mut text = String::new(alloc);
+    let mut text = String::with_capacity(alloc, words.len())?;
     for word in words {
         let code = element(alloc, store, form, *word, by)?;
         text.push(code)?;

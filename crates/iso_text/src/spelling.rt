@@ -48,7 +48,7 @@ fn spelled<S: Store>(
     ensures cells { Takes S.Store store.old store.new 0 }
     ensures rest { Retains S.Store store.old store.new }
 {
-    let mut words = Vec::new(alloc);
+    let mut words = Vec::with_capacity(alloc, text.len())?;
     for character in text.chars() {
         let made = make_element(store, form, character)?;
         words.push(made)?;

@@ -13,6 +13,9 @@ use super::lengths::count_characters;
 use super::parts::{Part, Parts, SubAtom};
 use std::alloc::{AllocError, Global};
 
+/// How many rows there is room for at first.
+const FEW: usize = 16;
+
 /// What is asked of a part by the arguments that are bound.
 #[derive(Clone, Copy)]
 pub(crate) struct Asked {
@@ -164,7 +167,7 @@ pub(crate) fn sub_atoms(
     ensures places { IfOk result (λ kept. (t : Tree) → arity t ≡ 5 → argument 0 t ≡ Name text.now → All (AreOf t) kept.items) }
 {
     let count = count_characters(text);
-    let mut kept = Vec::new(alloc);
+    let mut kept = Vec::with_capacity(alloc, FEW)?;
     let mut rest = count;
     for (start, _) in text.char_indices() {
         let before = count - rest;

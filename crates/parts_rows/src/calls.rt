@@ -190,7 +190,7 @@ fn renewal<S: Store>(store: &mut S, term: &Term) -> Result<S::Word, StoreFault>
     ensures { IfOk result (λ w. Holds (S.present store.new) w) }
 {
     let pattern = store.pattern(term)?;
-    store.renew(&pattern, 2)
+    store.renew(pattern.parts.as_slice(), 2)
 }
 
 /// p(X, X, g(Y), 7, a) with new variables.
@@ -219,7 +219,7 @@ fn head_words<S: Store>(
 {
     let pattern = store.pattern(head)?;
     let mut words = Vec::new(alloc);
-    if store.unify_head(&pattern, goal, 2, &mut words)? {
+    if store.unify_head(pattern.parts.as_slice(), goal, 2, &mut words)? {
         return Ok(Some(words));
     }
     Ok(None)

@@ -21,8 +21,8 @@ returns-clause-list g c = λ atom_word p nodes ms list.
     ∙ ap (λ (fs : List Frame). top_of fs c.args.behind) c.as_slice.ensures.value) in
     given_list atom_word nodes (max c.args.kept_frames (depth_of c.args.behind))
     (max c.args.kept_words (top_of c.args.frames.now.items c.args.behind)) c.args.frames.now.items
-    c.truncate.new.self.items c.args.words.now.items c.truncate-2.new.self.items
-    (c.truncate.ensures.items ∙ ap (λ (n : ℕ). take n c.args.frames.now.items)
+    c.keep_lowest.new.frames.items c.args.words.now.items c.truncate.new.self.items
+    (c.keep_lowest.ensures ∙ ap (λ (n : ℕ). take n c.args.frames.now.items)
     (c.max.ensures ∙ ap (λ (n : ℕ). max c.args.kept_frames n) needed))
-    (c.truncate-2.ensures ∙ ap (λ (n : ℕ). take n c.args.words.now.items)
+    (c.truncate.ensures ∙ ap (λ (n : ℕ). take n c.args.words.now.items)
     (c.max-2.ensures ∙ ap (λ (n : ℕ). max c.args.kept_words n) top)) (omega arith) (omega arith) list

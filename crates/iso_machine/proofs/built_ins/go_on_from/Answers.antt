@@ -6,11 +6,12 @@ use Rattle.iso_machine.proofs.built_ins.go_on_from.Goals as goal
 
 -- ---- it succeeded
 
-pub coming-search-requires : goal.coming-search-requires
-coming-search-requires g c =
+pub go_on-requires : goal.go_on-requires
+go_on-requires g c =
     let has = c.requires.4 in
     let s = c.requires.5 in
     let is : c.args.answered ≡ Ok outcome.Done = search rules in (
+      g.S.Store.present c.args.search.now.store,
       (here g.S.Store g.S.Cells.atom_word has s.0 s.1).at.behind,
       done_list g.S.Store g.S.Cells.atom_word has s.0 s.1 is,
     )
@@ -18,8 +19,8 @@ coming-search-requires g c =
 pub returns-in-Ok-Done : goal.returns-in-Ok-Done
 returns-in-Ok-Done g c = λ old e name room has.
     (let is : c.args.answered ≡ Ok outcome.Done = search rules in
-    done_came g.S.Store g.S.Cells.atom_word has is c.coming-search.result c.coming-search.ensures.behind
-    c.coming-search.ensures.cost c.coming-search.ensures.awake)
+    done_came g.S.Store g.S.Cells.atom_word has is c.go_on.new.doing
+    (c.go_on.ensures.behind (g.S.Store.present c.args.search.now.store)) c.go_on.ensures.cost c.go_on.ensures.awake)
 
 -- ---- it failed
 

@@ -21,7 +21,7 @@ returns-then-is_fact-clause-list g c = λ p names d below environment ms words h
 
 pub returns-then-is_fact-clause-cost : goal.returns-then-is_fact-clause-cost
 returns-then-is_fact-clause-cost g c =
-    let up = cost_above most (cost_at c.args.lists.now c.args.rest) in
+    let up = cost_above most (cost_at c.args.lists.now c.args.put.now.behind) in
     omega (arith, up)
 
 pub returns-clause-list : goal.returns-clause-list
@@ -43,7 +43,7 @@ returns-clause-cost g c =
     let room = body.ok.1 in
     let small = body.small in
     let few = below_words (length body.items - 1) (omega (arith, many, room, small)) in
-    let up = cost_higher most (length body.items - 1) (cost_at c.args.lists.now c.args.rest) (omega (arith, few)) in
+    let up = cost_higher most (length body.items - 1) (cost_at c.args.lists.now c.args.put.now.behind) (omega (arith, few)) in
     omega (arith, cost, up)
 
 pub returns-then-is_one_call-clause-last : goal.returns-then-is_one_call-clause-last

@@ -36,12 +36,12 @@ returns-then-not-is_called-clause-comes g c = λ d t ms is calls list.
     let l = c.args.lists.now in
     let p = g.S.Store.present c.args.store.now in
     let names = g.S.Store.names c.args.store.now in
-    let text = text_at names c.args.name in
-    let named = call_named a l calls text (g.met.S.Cells.named c.args.store.now c.args.name calls.known).1 in
+    let text = text_at names c.args.put.now.name in
+    let named = call_named a l calls text (g.met.S.Cells.named c.args.store.now c.args.put.now.name calls.known).1 in
     call_other a l calls text named d.head is.head_template.is is.head_template.key.0 is.head_template.key.1
     (λ same. other_key (subst (λ (code : Code). KeepsCode names code d) (sym c.as_ref.ensures) is.own)
-    (g.met.S.Cells.once c.args.store.now) c.args.name c.len-count.result
-    (g.met.S.Cells.named c.args.store.now c.args.name calls.known).0
+    (g.met.S.Cells.once c.args.store.now) c.args.put.now.name c.len-count.result
+    (g.met.S.Cells.named c.args.store.now c.args.put.now.name calls.known).0
     (c.is_called.ensures.other c.if-not-is_called.true)
     (same ∙ ap (λ (n : ℕ). Some (key text n)) (sym c.len-count.ensures)))
 
@@ -52,10 +52,10 @@ returns-then-not-met-clause-comes g c = λ d t ms is calls list.
     let p = g.S.Store.present c.args.store.now in
     let q = g.S.Store.present c.meet_clause.new.store in
     let names = g.S.Store.names c.args.store.now in
-    let text = text_at names c.args.name in
-    let named = call_named a l calls text (g.met.S.Cells.named c.args.store.now c.args.name calls.known).1 in
+    let text = text_at names c.args.put.now.name in
+    let named = call_named a l calls text (g.met.S.Cells.named c.args.store.now c.args.put.now.name calls.known).1 in
     let found = called_key
-    (subst (λ (code : Code). KeepsCode names code d) (sym c.as_ref.ensures) is.own) c.args.name c.len-count.result
+    (subst (λ (code : Code). KeepsCode names code d) (sym c.as_ref.ensures) is.own) c.args.put.now.name c.len-count.result
     (c.is_called.ensures.same c.if-not-is_called.false).0 (c.is_called.ensures.same c.if-not-is_called.false).1
     ∙ ap (λ (n : ℕ). Some (key text n)) c.len-count.ensures in
     let same = call_key a l calls text named d.head found in
@@ -78,10 +78,10 @@ returns-clause-comes g c = λ d t ms is calls list.
     let p = g.S.Store.present c.args.store.now in
     let q = g.S.Store.present c.meet_clause.new.store in
     let names = g.S.Store.names c.args.store.now in
-    let text = text_at names c.args.name in
-    let named = call_named a l calls text (g.met.S.Cells.named c.args.store.now c.args.name calls.known).1 in
+    let text = text_at names c.args.put.now.name in
+    let named = call_named a l calls text (g.met.S.Cells.named c.args.store.now c.args.put.now.name calls.known).1 in
     let found = called_key
-    (subst (λ (code : Code). KeepsCode names code d) (sym c.as_ref.ensures) is.own) c.args.name c.len-count.result
+    (subst (λ (code : Code). KeepsCode names code d) (sym c.as_ref.ensures) is.own) c.args.put.now.name c.len-count.result
     (c.is_called.ensures.same c.if-not-is_called.false).0 (c.is_called.ensures.same c.if-not-is_called.false).1
     ∙ ap (λ (n : ℕ). Some (key text n)) c.len-count.ensures in
     let same = call_key a l calls text named d.head found in
@@ -125,7 +125,7 @@ pub returns-clause-pending : goal.returns-clause-pending
 returns-clause-pending g c = λ d is.
     let most = clause_cells is.own in
     let code = c.args.clause.now.own.kept.value in
-    let old = pending_at c.args.lists.now c.args.rest in
+    let old = pending_at c.args.lists.now c.args.put.now.behind in
     at_weaker c.in_ok-begin.field-0 (λ (place : Option Rest). pending_at c.begin.new.lists place
     ≤ cells_from code (length code.body.items - 1) + old)
     (λ (place : Option Rest). pending_at c.begin.new.lists place ≤ 2 * body_size d.body + old)
@@ -139,10 +139,10 @@ returns-clause-last g c = λ fs d t ms done framed is calls list.
     let p = g.S.Store.present c.args.store.now in
     let q = g.S.Store.present c.meet_clause.new.store in
     let names = g.S.Store.names c.args.store.now in
-    let text = text_at names c.args.name in
-    let named = call_named a l calls text (g.met.S.Cells.named c.args.store.now c.args.name calls.known).1 in
+    let text = text_at names c.args.put.now.name in
+    let named = call_named a l calls text (g.met.S.Cells.named c.args.store.now c.args.put.now.name calls.known).1 in
     let found = called_key
-    (subst (λ (code : Code). KeepsCode names code d) (sym c.as_ref.ensures) is.own) c.args.name c.len-count.result
+    (subst (λ (code : Code). KeepsCode names code d) (sym c.as_ref.ensures) is.own) c.args.put.now.name c.len-count.result
     (c.is_called.ensures.same c.if-not-is_called.false).0 (c.is_called.ensures.same c.if-not-is_called.false).1
     ∙ ap (λ (n : ℕ). Some (key text n)) c.len-count.ensures in
     let same = call_key a l calls text named d.head found in
@@ -180,13 +180,13 @@ returns-clause-last g c = λ fs d t ms done framed is calls list.
     }) fs in
     let alone = c.in_ok-begin.ensures.last (ap Ok last) in
     let two = alone.2.two in
-    subst (λ (held : Framed _ _ _). HasFrame held fs c.args.clause.now.own.kept c.args.mark c.args.rest
+    subst (λ (held : Framed _ _ _). HasFrame held fs c.args.clause.now.own.kept c.args.mark c.args.put.now.behind
     → Begins a p q t d c.args.mark ms (with_frames held fs) (Some (place_of held))) (sym alone.1)
     (λ frames. met_begins a p q is.own calls.name arguments own same h many t c.args.mark ms met_lists
     (Some (place_of (with_frames met_lists l.frames))) calls.is
     (g.met.S.Cells.settled c.meet_clause.new.store)
     (whole_list a met_lists (entered_list a l.nodes.items old own c.args.clause.now.own.kept
-    c.args.clause.now.own.kept.value c.args.mark c.args.rest l.frames.items fs.items new (length l.frames.items) 1 refl
+    c.args.clause.now.own.kept.value c.args.mark c.args.put.now.behind l.frames.items fs.items new (length l.frames.items) 1 refl
     are has chain frames refl (omega (arith, two)))))
     framed
 

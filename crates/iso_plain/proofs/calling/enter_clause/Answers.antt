@@ -1,3 +1,5 @@
+use Rattle.std.proofs.Common.{ℕ, subst, sym}
+use Rattle.iso_plain_core.specs.Entering.{HeadFits}
 use Rattle.iso_plain_core.proofs.EnteringLemmas.{adds_none}
 use Rattle.iso_plain_core.proofs.KeptLemmas.{head_fits, kept_parts_fit}
 use Rattle.iso_program.proofs.LeavingLemmas.{left_clause}
@@ -15,7 +17,9 @@ pub enter-requires-clause-head_fits : goal.enter-requires-clause-head_fits
 enter-requires-clause-head_fits g c =
     let t = c.requires.6 in
     let is = left_clause (g.S.Store.names c.args.search.now.store) c.args.search.now.db t.clauses c.clause-clause.result.now c.clause-clause.ensures in
-    rw is.variables (head_fits _ _ _ _ is.head is.head_template)
+    let names = g.S.Store.names c.args.search.now.store in
+    let clause = c.clause-clause.result.now in
+    subst (λ (n : ℕ). HeadFits names n clause) (sym is.variables) (head_fits names _ clause _ is.head is.head_template)
 
 pub enter-requires-clause-parts_fit : goal.enter-requires-clause-parts_fit
 enter-requires-clause-parts_fit g c =

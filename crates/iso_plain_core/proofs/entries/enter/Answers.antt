@@ -1,6 +1,9 @@
-use Rattle.std.proofs.Common.{◌≡◌, ◌+◌, ℕ, length, arith, subst}
-use Rattle.iso_plain_core.specs.Entering.{PartsFit}
-use Rattle.iso_program.specs.Written.{term_in}
+use Rattle.std.proofs.Common.{◌≡◌, ◌+◌, ℕ, List, length, arith, sym, subst}
+use Rattle.iso_plain_core.specs.Entering.{HeadFits, PartsFit}
+use Rattle.iso_store_core.specs.Patterns.{IsPattern}
+use Rattle.iso_store_core.specs.declared.patterns.Part.{Part}
+use Rattle.iso_program.specs.Heads.{head_parts, head_term}
+use Rattle.iso_program.specs.declared.clauses.Clause.{Clause}
 use Rattle.iso_search_core.proofs.WordLemmas.{extends_none}
 use Rattle.iso_plain_core.proofs.EnteringLemmas.{no_parts, some_parts, copies_some}
 use Rattle.iso_plain_core.proofs.HeadLemmas.{head_met, meets_behind, head_terms, head_values, copies_with}
@@ -13,25 +16,33 @@ use Rattle.iso_plain_core.proofs.entries.enter.Given.{Over}
 use Rattle.iso_plain_core.proofs.entries.enter.Goals.{After-as_slice-parts, After-unify_head}
 use Rattle.iso_plain_core.proofs.entries.enter.Goals as goal
 
+-- the parts that the head gives are written for its term
+written_parts : {C : Type 0} (names : List (List ℕ)) {n : ℕ} {clause : Clause C} {ks : List Part} → ks ≡ head_parts clause
+    → HeadFits names n clause → IsPattern names ks (head_term names clause)
+written_parts names {clause = clause} same fits = subst (λ ks. IsPattern names ks (head_term names clause)) (sym same) fits.written
+
 -- the head met the goal
-head_meets : (g : Over) (c : After-as_slice-parts g) → MeetsHead (g.S.Store.present c.args.store.now) (g.S.Store.present c.unify_head.new.self) c.args.goal (term_in (g.S.Store.names c.args.store.now) c.args.clause.now.head) c.args.clause.now.variables c.unify_head.new.words.items
-head_meets g c = head_met _ _ _ _ _ _ c.in_ok-unify_head.field-0 c.if-not-branch.false (c.in_ok-unify_head.ensures.met _ c.requires.head_fits.written)
+head_meets : (g : Over) (c : After-as_slice-parts g) → MeetsHead (g.S.Store.present c.args.store.now) (g.S.Store.present c.unify_head.new.self) c.args.goal (head_term (g.S.Store.names c.args.store.now) c.args.clause.now) c.args.clause.now.variables c.unify_head.new.words.items
+head_meets g c = head_met _ _ _ _ _ _ c.in_ok-unify_head.field-0 c.if-not-branch.false (c.in_ok-unify_head.ensures.met _ (written_parts (g.S.Store.names c.args.store.now) c.head.ensures.parts c.requires.head_fits))
 
 -- so much it took
-head_grows : (g : Over) (c : After-unify_head g) → CountsCells g.S.Store → Grows (g.S.Store.present c.args.store.now) (g.S.Store.present c.unify_head.new.self) (c.args.clause.now.variables + cells_of 0 (λ n. n + 1) (term_in (g.S.Store.names c.args.store.now) c.args.clause.now.head)) c.args.clause.now.variables
+head_grows : (g : Over) (c : After-unify_head g) → CountsCells g.S.Store → Grows (g.S.Store.present c.args.store.now) (g.S.Store.present c.unify_head.new.self) (c.args.clause.now.variables + cells_of 0 (λ n. n + 1) (head_term (g.S.Store.names c.args.store.now) c.args.clause.now)) c.args.clause.now.variables
 head_grows g c counts =
-    let head = term_in (g.S.Store.names c.args.store.now) c.args.clause.now.head in
-    subst (λ (k : ℕ). Grows (g.S.Store.present c.args.store.now) (g.S.Store.present c.unify_head.new.self) (c.args.clause.now.variables + cells_of k (λ n. n + 1) head) c.args.clause.now.variables) counts.atomic (c.unify_head.ensures.cells head c.requires.head_fits.written)
+    let head = head_term (g.S.Store.names c.args.store.now) c.args.clause.now in
+    subst (λ (k : ℕ). Grows (g.S.Store.present c.args.store.now) (g.S.Store.present c.unify_head.new.self) (c.args.clause.now.variables + cells_of k (λ n. n + 1) head) c.args.clause.now.variables) counts.atomic (c.unify_head.ensures.cells head (written_parts (g.S.Store.names c.args.store.now) c.head.ensures.parts c.requires.head_fits))
+
+pub unify_head-requires-clause-exact : goal.unify_head-requires-clause-exact
+unify_head-requires-clause-exact g c = c.head.ensures.exact
 
 pub unify_head-requires-clause-head : goal.unify_head-requires-clause-head
 unify_head-requires-clause-head g c =
     let fits = c.requires.head_fits in
-    (term_in (g.S.Store.names c.args.store.now) c.args.clause.now.head, fits.written, fits.fits.arities, fits.fits.below)
+    (head_term (g.S.Store.names c.args.store.now) c.args.clause.now, written_parts (g.S.Store.names c.args.store.now) c.head.ensures.parts fits, fits.fits.arities, fits.fits.below)
 
 -- what the answer says where nothing makes them equal
 pub returns-then-not-branch-clause-enters : goal.returns-then-not-branch-clause-enters
 returns-then-not-branch-clause-enters g c =
-    rw c.if-not-branch.true at (c.in_ok-unify_head.ensures.met (term_in (g.S.Store.names c.args.store.now) c.args.clause.now.head) c.requires.head_fits.written)
+    rw c.if-not-branch.true at (c.in_ok-unify_head.ensures.met (head_term (g.S.Store.names c.args.store.now) c.args.clause.now) (written_parts (g.S.Store.names c.args.store.now) c.head.ensures.parts c.requires.head_fits))
 
 -- the variables' words as the copying gets them
 pub copy_parts-requires-clause-fits : goal.copy_parts-requires-clause-fits

@@ -1,5 +1,4 @@
-use Rattle.std.proofs.Common.{◌≡◌, ◌∙◌, sym, ap, Option, Some, is_some, refl, true}
-use Rattle.iso_model.specs.Terms.TermOf.{term_of}
+use Rattle.std.proofs.Common.{◌≡◌, ◌∙◌, sym, ap, Some, refl}
 use Rattle.iso_model.specs.Terms.Trees.{Tree}
 use Rattle.iso_model.specs.Terms.Copies.{copy_from}
 use Rattle.iso_model.specs.Search.Databases.{Key, key_of}

@@ -1,4 +1,5 @@
-use Rattle.std.proofs.Common.{◌≡◌, List, [], ◌∷◌, ◌++◌, sym, subst, true}
+use Rattle.std.proofs.Common.{◌≡◌, ◌∙◌, List, [], ◌∷◌, ◌++◌, ap, append_assoc, arith, length, take, sym, subst, true}
+use Rattle.std.proofs.lemmas.List.{take_all, take-append-le}
 use Rattle.iso_model.specs.Search.Bodies.{two}
 use Rattle.iso_atoms.specs.Texts.{text_at}
 use Rattle.iso_store_core.specs.declared.patterns.Part.{Part}
@@ -23,8 +24,15 @@ invariant_of-result c =
     let all = all_parts ks ls _ _ _ _ _ _ (Compound c.args.name 2) c.in_ok-parts.ensures.items c.in_ok-extend_from_slice.ensures.items c.as_slice-first.ensures.value c.in_ok-extend_from_slice-2.ensures.items c.as_slice-second.ensures.value c.in_ok-push.ensures.items in
     record { exact = subst (λ ps. are_exact ps 0 ≡ true) (sym all) exact }
 
-pub returns : goal.returns
-returns c = λ names t u named first second.
+pub returns-clause-begins : goal.returns-clause-begins
+returns-clause-begins c =
+    let ks = c.args.first.now.parts.items in
+    let ls = c.args.second.now.parts.items in
+    let all = all_parts ks ls _ _ _ _ _ _ (Compound c.args.name 2) c.in_ok-parts.ensures.items c.in_ok-extend_from_slice.ensures.items c.as_slice-first.ensures.value c.in_ok-extend_from_slice-2.ensures.items c.as_slice-second.ensures.value c.in_ok-push.ensures.items in
+    ap (take (length ks)) (all ∙ append_assoc ks ls (Compound c.args.name 2 ∷ [])) ∙ take-append-le (length ks) ks (ls ++ Compound c.args.name 2 ∷ []) (omega arith) ∙ take_all (length ks) ks (omega arith)
+
+pub returns-clause-pattern : goal.returns-clause-pattern
+returns-clause-pattern c = λ names t u named first second.
     (let ks = c.args.first.now.parts.items in
     let ls = c.args.second.now.parts.items in
     let all = all_parts ks ls _ _ _ _ _ _ (Compound c.args.name 2) c.in_ok-parts.ensures.items c.in_ok-extend_from_slice.ensures.items c.as_slice-first.ensures.value c.in_ok-extend_from_slice-2.ensures.items c.as_slice-second.ensures.value c.in_ok-push.ensures.items in

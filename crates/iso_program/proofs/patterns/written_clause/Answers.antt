@@ -1,8 +1,7 @@
-use Rattle.std.proofs.Common.{codes, refl, sym, ap, ◌∙◌, subst}
+use Rattle.std.proofs.Common.{◌≡◌, codes, arith, length, take, sym, ap, ◌∙◌, subst}
 use Rattle.iso_model.specs.Terms.TermOf.{term_of}
 use Rattle.iso_model.specs.Search.Bodies.{two}
 use Rattle.iso_store_core.specs.Patterns.{IsPattern}
-use Rattle.iso_program.proofs.PrepareLemmas.{one_tree}
 use Rattle.iso_program.proofs.WrittenLemmas.{written_kept, clause_written}
 use Rattle.iso_program.proofs.patterns.written_clause.Goals as goal
 
@@ -16,7 +15,9 @@ returns-clause-clause g c = λ k is.
     let body_term = term_of c.body.result.now in
     let head = written_kept mid new c.in_ok-own.ensures.rest.names c.in_ok-head.head head_term
     (written_kept first mid c.in_ok-whole.ensures.rest.names c.in_ok-head.head head_term c.in_ok-head.ensures.pattern) in
+    let many : c.len.result ≡ length c.in_ok-head.head.parts.items = omega (arith, c.len.ensures, c.in_ok-head.head.parts.ok.0) in
+    let same = ap (λ n. take n c.in_ok-whole.whole.parts.items) many ∙ c.in_ok-whole.ensures.begins in
+    let begins = subst (λ ks. IsPattern new ks head_term) (sym same) head in
     let whole = written_kept mid new c.in_ok-own.ensures.rest.names c.in_ok-whole.whole (two (codes ":-") head_term body_term) (c.in_ok-whole.ensures.whole head_term c.in_ok-head.ensures.pattern) in
-    let shown = c.first_part-first.ensures new k.head (subst (λ ks. IsPattern new ks k.head) (sym c.as_slice.ensures.value) (subst (λ t. IsPattern new c.in_ok-head.head.parts.items t) (one_tree (sym c.head.ensures ∙ is.head)) head)) in
-    clause_written new checked (record { head = c.in_ok-head.head; first = c.first_part-first.result; whole = c.in_ok-whole.whole; variables = c.variables.result; own = c.in_ok-own.own }) k head_term body_term
-    c.head.ensures c.body.ensures head whole c.variables.ensures.count shown (c.in_ok-own.ensures.kept k is) is)
+    clause_written new checked (record { head = c.len.result; whole = c.in_ok-whole.whole; variables = c.variables.result; own = c.in_ok-own.own }) k head_term body_term
+    c.head.ensures c.body.ensures begins whole c.variables.ensures.count (c.in_ok-own.ensures.kept k is) is)

@@ -17,4 +17,4 @@ returns-clause-whole g c = λ t is.
     let body = pattern-kept mid new c.in_ok-name.ensures.names c.in_ok-body.body.parts.items (term_of c.args.body.now) c.in_ok-body.ensures.pattern in
     let named = slice_get_within new name (codes ":-") c.in_ok-name.ensures.place in
     subst (λ f. IsPattern new c.in_ok-pair.field-0.parts.items (two f t (term_of c.args.body.now))) (text-is new name (codes ":-") c.in_ok-name.ensures.place)
-    (c.in_ok-pair.ensures new t (term_of c.args.body.now) named head body))
+    (c.in_ok-pair.ensures.pattern new t (term_of c.args.body.now) named head body))

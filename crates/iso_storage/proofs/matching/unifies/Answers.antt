@@ -11,15 +11,15 @@ use Rattle.iso_storage.proofs.matching.unifies.Goals as goal
 
 pub returns-in_err-shown-clause-cells : goal.returns-in_err-shown-clause-cells
 returns-in_err-shown-clause-cells g c = λ d is.
-    (takes_most (size d.head) (omega arith) (takes_on (takes_none 0 c.reserve-next.ensures.cells) (takes_copy (size d.head) d.head (omega arith) (c.renew.ensures.cells d.head (rw c.reserve-next.ensures.names is.head)))))
+    (takes_most (size d.head) (omega arith) (takes_on (takes_none 0 c.reserve-next.ensures.cells) (takes_copy (size d.head) d.head (omega arith) (c.renew.ensures.cells d.head (rw (c.head.ensures.parts, c.reserve-next.ensures.names) is.head)))))
 
 pub unify-requires-clause-first : goal.unify-requires-clause-first
 unify-requires-clause-first g c =
     let h = c.requires.clause in
-    (c.in_ok-shown.ensures.made h.0.head (rw c.reserve-next.ensures.names h.1.head)).words.stand c.args.head (c.reserve-next.ensures.words.stand c.args.head c.requires.head)
+    (c.in_ok-shown.ensures.made h.0.head (rw (c.head.ensures.parts, c.reserve-next.ensures.names) h.1.head)).words.stand c.args.head (c.reserve-next.ensures.words.stand c.args.head c.requires.head)
 
 pub unify-requires-clause-second : goal.unify-requires-clause-second
-unify-requires-clause-second g c = let h = c.requires.clause in (c.in_ok-shown.ensures.made h.0.head (rw c.reserve-next.ensures.names h.1.head)).holds
+unify-requires-clause-second g c = let h = c.requires.clause in (c.in_ok-shown.ensures.made h.0.head (rw (c.head.ensures.parts, c.reserve-next.ensures.names) h.1.head)).holds
 
 pub returns-clause-unifies : goal.returns-clause-unifies
 returns-clause-unifies g c = λ d is.
@@ -32,11 +32,11 @@ returns-clause-unifies g c = λ d is.
     let next : r.next ≡ p.next = (let e = c.reserve-next.ensures.numbers.next in omega (arith, e)) in
     IfOk-weaker c.unify.result _ _
     (λ answer met. unified_answer p r (g.S.Store.present c.renew.new.self) (g.S.Store.present c.unify.new.self) c.args.head c.in_ok-shown.shown d.head c.requires.head c.reserve-next.ensures.words c.reserve-next.ensures.substitution alone
-    (c.in_ok-shown.ensures.made d.head (rw c.reserve-next.ensures.names is.head)) answer met
+    (c.in_ok-shown.ensures.made d.head (rw (c.head.ensures.parts, c.reserve-next.ensures.names) is.head)) answer met
     ∙ ap (λ (n : ℕ). is_some (unifier_of (meaning p c.args.head) (renamed n d.head))) next)
     c.unify.ensures.unified)
 
 pub returns-clause-cells : goal.returns-clause-cells
 returns-clause-cells g c = λ d is.
     (takes_most (size d.head) (omega arith)
-    (takes_on (takes_none 0 c.reserve-next.ensures.cells) (takes_on (takes_copy (size d.head) d.head (omega arith) (c.in_ok-shown.ensures.cells d.head (rw c.reserve-next.ensures.names is.head))) (takes_none 0 c.unify.ensures.cells))))
+    (takes_on (takes_none 0 c.reserve-next.ensures.cells) (takes_on (takes_copy (size d.head) d.head (omega arith) (c.in_ok-shown.ensures.cells d.head (rw (c.head.ensures.parts, c.reserve-next.ensures.names) is.head))) (takes_none 0 c.unify.ensures.cells))))

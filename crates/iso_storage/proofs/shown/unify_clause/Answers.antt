@@ -15,11 +15,11 @@ use Rattle.iso_storage.proofs.shown.unify_clause.Goals as goal
 -- the clause was made
 module _ (g : Over) (k : databases.Clause) where
   copied : (c : After-renew g) → IsClause g.C.OfClause.keeps (g.S.Store.names c.args.store.now) c.args.clause.now k → Takes g.S.Store c.args.store.now c.renew.new.self (clause_cost k)
-  copied c is = takes_after (c.forget.ensures.present ∙ c.mark-mark.ensures.present) (takes_copy (clause_cost k) (clause_term k) (omega arith) (c.renew.ensures.cells (clause_term k) (rw (c.forget.ensures.names, c.mark-mark.ensures.names) is.whole)))
+  copied c is = takes_after (c.forget.ensures.present ∙ c.mark-mark.ensures.present) (takes_copy (clause_cost k) (clause_term k) (omega arith) (c.renew.ensures.cells (clause_term k) (rw (c.as_slice.ensures.value, c.forget.ensures.names, c.mark-mark.ensures.names) is.whole)))
 
   made : (c : In_ok-shown g) → IsClause g.C.OfClause.keeps (g.S.Store.names c.args.store.now) c.args.clause.now k
       → Makes (g.S.Store.present c.args.store.now) (g.S.Store.present c.renew.new.self) c.in_ok-shown.shown (renamed (g.S.Store.present c.args.store.now).next (clause_term k))
-  made c is = made_here k (c.forget.ensures.present ∙ c.mark-mark.ensures.present) (c.in_ok-shown.ensures.made (clause_term k) (rw (c.forget.ensures.names, c.mark-mark.ensures.names) is.whole))
+  made c is = made_here k (c.forget.ensures.present ∙ c.mark-mark.ensures.present) (c.in_ok-shown.ensures.made (clause_term k) (rw (c.as_slice.ensures.value, c.forget.ensures.names, c.mark-mark.ensures.names) is.whole))
 
 pub returns-in_err-shown-clause-cells : goal.returns-in_err-shown-clause-cells
 returns-in_err-shown-clause-cells g c = λ k is. copied g k (goal.at.returns-in_err-shown-clause-cells g c).After-renew is

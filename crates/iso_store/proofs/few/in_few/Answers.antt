@@ -8,7 +8,7 @@ use Rattle.iso_store_core.specs.Presents.{meaning}
 use Rattle.iso_store.specs.declared.occurs.Task.TheVariants.{Search}
 use Rattle.iso_store.specs.Searching.{found}
 use Rattle.iso_store.proofs.FewLemmas.{IsMade, whole-there, whole-found, found-there, found-none, found-into, found-last}
-use Rattle.iso_store.proofs.few.in_few.Goals.{in-Compound-look_on+then-next-count+in_ok-push-in-Compound-look_on, in-Compound-look_on+else-next-count, in-Absent-look_on+in-Some+in-Search}
+use Rattle.iso_store.proofs.few.in_few.Goals.{in-Compound-look_on+else-room-many+then-next-count+in_ok-push-in-Compound-look_on, in-Compound-look_on+else-room-many+else-next-count, in-Absent-look_on+in-Some+in-Search}
 use Rattle.iso_store.proofs.few.in_few.Goals as goal
 
 pub loop-turn-init : goal.loop-turn-init
@@ -58,7 +58,7 @@ loop-turn-preserved g c =
     let count = c.loop-turn.count in
     let all = occurs x (meaning p c.args.word) in
     elim c.match-look_on.branch [
-      | in-Compound-look_on+then-next-count+in_ok-push-in-Compound-look_on w ↦
+      | in-Compound-look_on+else-room-many+then-next-count+in_ok-push-in-Compound-look_on w ↦
           let inner = w.in-Compound-look_on.inner in
           let next = w.in-Compound-look_on.next in
           let e = w.in-Compound-look_on.ensures in
@@ -73,7 +73,7 @@ loop-turn-preserved g c =
                 whole-found p inner _ look.0 look.1 look.2 look.3 look.4 at x all w.push.new.self.items
                 (found-into p at x xs word index count all i.found (meaning p inner) next e.4 w.push.new.self.items more);
           })
-      | in-Compound-look_on+else-next-count w ↦
+      | in-Compound-look_on+else-room-many+else-next-count w ↦
           let inner = w.in-Compound-look_on.inner in
           let next = w.in-Compound-look_on.next in
           let e = w.in-Compound-look_on.ensures in

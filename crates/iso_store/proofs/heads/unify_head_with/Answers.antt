@@ -12,7 +12,7 @@ bare g c n above = g.met.S.Primitives.untouched c.reserve-first.new.self n (c.re
 pub returns-then-not-branch-clause-met : goal.returns-then-not-branch-clause-met
 returns-then-not-branch-clause-met g c = λ t pattern.
     let names = g.S.Primitives.names c.args.store.now in
-    let ks = c.args.head.now.parts.items in
+    let ks = c.args.head.now in
     let n = length c.begin.new.reading.values.items in
     let told = rw c.reserve-first.ensures.names at c.in_ok-read_head.ensures.read in
     let read = read-never (g.S.Primitives.present c.reserve-first.new.self) names ks n c.args.goal c.read_head.new.values.items c.read_head.new.later.items c.in_ok-read_head.field-0 c.if-not-branch.true told in
@@ -22,7 +22,7 @@ returns-then-not-branch-clause-met g c = λ t pattern.
 pub unify_later-requires-clause-later : goal.unify_later-requires-clause-later
 unify_later-requires-clause-later g c =
     let names = g.S.Primitives.names c.args.store.now in
-    let ks = c.args.head.now.parts.items in
+    let ks = c.args.head.now in
     let values = c.read_head.new.values.items in
     let later = c.read_head.new.later.items in
     let read = read-whole (g.S.Primitives.present c.reserve-first.new.self) names ks (length c.begin.new.reading.values.items) c.args.goal values later c.in_ok-read_head.field-0 c.if-not-branch.false (rw c.reserve-first.ensures.names at c.in_ok-read_head.ensures.read) in
@@ -33,7 +33,7 @@ unify_later-requires-clause-later g c =
 pub returns-clause-met : goal.returns-clause-met
 returns-clause-met g c = λ t pattern.
     let names = g.S.Primitives.names c.args.store.now in
-    let ks = c.args.head.now.parts.items in
+    let ks = c.args.head.now in
     let a = g.S.Primitives.present c.reserve-first.new.self in
     let n = length c.begin.new.reading.values.items in
     let values = c.read_head.new.values.items in

@@ -10,7 +10,7 @@ use Rattle.iso_store.proofs.heads.unify_later.Goals as goal
 
 pub loop-part-init : goal.loop-part-init
 loop-part-init g c = record {
-  unified = these-none (g.S.Primitives.present c.args.store.now) (g.S.Primitives.names c.args.store.now) c.args.head.now.parts.items c.args.words.now;
+  unified = these-none (g.S.Primitives.present c.args.store.now) (g.S.Primitives.names c.args.store.now) c.args.head.now c.args.words.now;
   cells = grows-none (g.S.Primitives.present c.args.store.now);
   names = refl;
   marks = λ m p h. h;
@@ -19,14 +19,14 @@ loop-part-init g c = record {
 pub returns-then-not-branch-clause-unified : goal.returns-then-not-branch-clause-unified
 returns-then-not-branch-clause-unified g c =
     let so = c.loop-part.invariant in
-    these-fail (g.S.Primitives.names c.args.store.now) c.args.head.now.parts.items c.args.words.now c.requires.words c.args.later.now c.requires.later c.loop-part.part-index c.part-item.result
+    these-fail (g.S.Primitives.names c.args.store.now) c.args.head.now c.args.words.now c.requires.words c.args.later.now c.requires.later c.loop-part.part-index c.part-item.result
     c.loop-part-test.true c.part-item.is so.unified (g.S.Primitives.present c.unify_part.new.store) _ c.if-not-branch.true (rw so.names at c.in_ok-unify_part.ensures.unified)
 
 pub loop-part-preserved : goal.loop-part-preserved
 loop-part-preserved g c =
     let so = c.loop-part.invariant in
     let names = g.S.Primitives.names c.args.store.now in
-    let ks = c.args.head.now.parts.items in
+    let ks = c.args.head.now in
     let later = c.args.later.now in
     let i = c.loop-part.part-index in
     let next = later-next names ks g.S.Primitives.atomic g.S.Primitives.width later i c.part-item.result c.loop-part-test.true c.part-item.is in
@@ -37,11 +37,11 @@ loop-part-preserved g c =
       marks = λ m p h. c.unify_part.ensures.marks m p (so.marks m p h);
     }
 
-cells : (g : Over) (c : After-unify_part g) → Grows (g.S.Primitives.present c.args.store.now) (g.S.Primitives.present c.unify_part.new.store) (later_cells (g.S.Primitives.names c.args.store.now) c.args.head.now.parts.items g.S.Primitives.atomic g.S.Primitives.width c.args.later.now) 0
+cells : (g : Over) (c : After-unify_part g) → Grows (g.S.Primitives.present c.args.store.now) (g.S.Primitives.present c.unify_part.new.store) (later_cells (g.S.Primitives.names c.args.store.now) c.args.head.now g.S.Primitives.atomic g.S.Primitives.width c.args.later.now) 0
 cells g c =
     let so = c.loop-part.invariant in
     let names = g.S.Primitives.names c.args.store.now in
-    let ks = c.args.head.now.parts.items in
+    let ks = c.args.head.now in
     let later = c.args.later.now in
     let i = c.loop-part.part-index in
     let next = later-next names ks g.S.Primitives.atomic g.S.Primitives.width later i c.part-item.result c.loop-part-test.true c.part-item.is in
@@ -56,5 +56,5 @@ returns-then-not-branch-clause-cells g c = cells g (goal.at.returns-then-not-bra
 
 pub returns-clause-cells : goal.returns-clause-cells
 returns-clause-cells g c =
-    let fewer = later-fewer (g.S.Primitives.names c.args.store.now) c.args.head.now.parts.items g.S.Primitives.atomic g.S.Primitives.width c.args.later.now c.loop-part.part-index in
+    let fewer = later-fewer (g.S.Primitives.names c.args.store.now) c.args.head.now g.S.Primitives.atomic g.S.Primitives.width c.args.later.now c.loop-part.part-index in
     grows-within _ c.loop-part.invariant.cells fewer

@@ -19,7 +19,7 @@ use Rattle.iso_store.specs.HeapBuilds.{numbered}
 use Rattle.iso_store.proofs.Gathering.{keeps-then}
 use Rattle.iso_store.proofs.Renaming.{arities-renamed, cells-renamed, places-covered}
 use Rattle.iso_store.proofs.HeapBuilt.{as_present, cells-within, copied-numbers, each-counted, goes-grows, goes-makes, goes-marks, goes-variables, have-none, no-variable}
-use Rattle.iso_store.proofs.heap_builds.build_in_place.Goals.{After-know_names, After-make_parts}
+use Rattle.iso_store.proofs.heap_builds.build_in_place.Goals.{After-know_names, After-as_slice, After-make_parts}
 use Rattle.iso_store.proofs.heap_builds.build_in_place.Goals as goal
 
 pub returns-in_err-pattern-clause-marks : goal.returns-in_err-pattern-clause-marks
@@ -38,6 +38,9 @@ returns-clause-marks c m p h = goes-marks c.make_parts.ensures.goes_on m p (c.kn
 whole : (c : After-know_names) → IsPattern (take c.know_names.new.self.named c.know_names.new.self.atoms) c.in_ok-pattern.pattern.parts.items (apply (λ x. Variable (place_of x c.note_all.new.self)) (term_of c.args.term.now))
 whole c = rw c.know_names.ensures.every c.in_ok-pattern.ensures.pattern
 
+sliced : (c : After-as_slice) → IsPattern (take c.know_names.new.self.named c.know_names.new.self.atoms) c.as_slice.result.now (apply (λ x. Variable (place_of x c.note_all.new.self)) (term_of c.args.term.now))
+sliced c = rw (c.as_slice.ensures.value, c.know_names.ensures.every) c.in_ok-pattern.ensures.pattern
+
 pub make_parts-requires-clause-pattern : goal.make_parts-requires-clause-pattern
 make_parts-requires-clause-pattern c =
     let t = term_of c.args.term.now in
@@ -46,7 +49,7 @@ make_parts-requires-clause-pattern c =
     let u : Tree = apply (λ x. Variable (place_of x vs)) t in
     let covered : Covers vs t = rw list (distinct_covers [] t) in
     let size = ap length c.in_ok-places.ensures ∙ length-replicate c.len-2.result None ∙ c.len-2.ensures.len in
-    (u, whole (goal.at.make_parts-requires-clause-pattern c).After-know_names, arities-renamed (λ x. place_of x vs) t ∙ c.requires.fits, subst (λ n. HasPlaces n u) (sym size) (places-covered vs t covered))
+    (u, sliced (goal.at.make_parts-requires-clause-pattern c).After-as_slice, arities-renamed (λ x. place_of x vs) t ∙ c.requires.fits, subst (λ n. HasPlaces n u) (sym size) (places-covered vs t covered))
 
 pub make_parts-requires-clause-cells : goal.make_parts-requires-clause-cells
 make_parts-requires-clause-cells c =
@@ -71,7 +74,7 @@ cells c =
     let number = c.reserve-first.ensures.number in
     let fewer = goes-variables c.make_parts.ensures.goes_on (variable_count t) (omega arith) in
     let room = sym (ap (λ a. a.capacity) c.know_names.ensures.area ∙ ap (λ p. p.limit) c.written.ensures.present) in
-    goes-grows c.make_parts.ensures.goes_on (as_present c.args.heap.now) (as_present c.reserve-first.new.self) (cells_of 0 (λ n. n + 1) u) (size t) (variable_count t) c.reserve-first.ensures.cells cells variables room (c.make_parts.ensures.few u (rw c.know_names.ensures.every c.in_ok-pattern.ensures.pattern)) within fewer
+    goes-grows c.make_parts.ensures.goes_on (as_present c.args.heap.now) (as_present c.reserve-first.new.self) (cells_of 0 (λ n. n + 1) u) (size t) (variable_count t) c.reserve-first.ensures.cells cells variables room (c.make_parts.ensures.few u (rw (c.as_slice.ensures.value, c.know_names.ensures.every) c.in_ok-pattern.ensures.pattern)) within fewer
 
 pub returns-in_err-word-clause-cells : goal.returns-in_err-word-clause-cells
 returns-in_err-word-clause-cells c = cells (goal.at.returns-in_err-word-clause-cells c).After-make_parts
@@ -84,7 +87,7 @@ unreachable-requires c =
     let t = term_of c.args.term.now in
     let vs = c.note_all.new.self in
     let u : Tree = apply (λ x. Variable (place_of x vs)) t in
-    let made = rw c.in-Variable.is at (c.in_ok-word.ensures.made u (whole (goal.at.unreachable-requires c).After-know_names)) in
+    let made = rw c.in-Variable.is at (c.in_ok-word.ensures.made u (sliced (goal.at.unreachable-requires c).After-as_slice)) in
     no-variable (numbered c.reserve-first.result) u (c.reserve-first.result + c.in-Variable.field-0) (λ m. no-variable (λ x. Variable (place_of x vs)) t m c.requires.other) (sym made.term)
 
 pub returns-clause-made : goal.returns-clause-made
@@ -98,7 +101,7 @@ returns-clause-made c =
     let words : KeepsWords (as_present old) (as_present known) = keeps-then c.reserve-first.ensures.words (subst (λ p. KeepsWords p (as_present known)) c.written.ensures.present c.know_names.ensures.words) in
     let same = c.know_names.ensures.substitution ∙ ap (λ p. p.substitution) c.written.ensures.present ∙ c.reserve-first.ensures.substitution in
     let is = copied-numbers t c.reserve-first.result old.next vs c.reserve-first.ensures.number list in
-    let made = rw c.in-Word.is at (c.in_ok-word.ensures.made u (whole (goal.at.returns-clause-made c).After-know_names)) in
+    let made = rw c.in-Word.is at (c.in_ok-word.ensures.made u (sliced (goal.at.returns-clause-made c).After-as_slice)) in
     goes-makes c.make_parts.ensures.goes_on (as_present old) (length c.in_ok-places.places.items) c.in-Word.word (apply (numbered c.reserve-first.result) u) (copy_from t old.next) words same is made
 
 pub returns-clause-numbers : goal.returns-clause-numbers
@@ -129,5 +132,5 @@ returns-clause-counted c =
     let kept = c.reserve-first.ensures.cells.keeps in
     let same = cells-renamed (λ x. place_of x vs) 0 (λ n. n + 1) t in
     let each = each-counted t is c.requires.other in
-    let all = c.in_ok-word.ensures.size u (whole (goal.at.returns-clause-counted c).After-know_names) in
+    let all = c.in_ok-word.ensures.size u (sliced (goal.at.returns-clause-counted c).After-as_slice) in
     omega arith

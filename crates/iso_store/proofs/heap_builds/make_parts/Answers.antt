@@ -1,7 +1,7 @@
 use Rattle.std.proofs.Common.{◌≡◌, ◌+◌, suc, length, map, take, ap, ap₂, sym, ◌∙◌, subst, arith, add-one}
 use Rattle.iso_model.specs.Terms.Substitutions.{apply}
 use Rattle.iso_store_core.specs.Presents.{Gathers}
-use Rattle.iso_store_core.specs.Patterns.{IsPattern, part_step}
+use Rattle.iso_store_core.specs.Patterns.{part_step}
 use Rattle.iso_model.specs.Terms.Building.{with_step}
 use Rattle.iso_store.specs.Writing.{IsReady, part_cells}
 use Rattle.iso_store.specs.HeapBuilds.{built, numbered}
@@ -14,10 +14,10 @@ pub make_part-requires-clause-ready : goal.make_part-requires-clause-ready
 make_part-requires-clause-ready c =
     let names = take c.args.heap.now.named c.args.heap.now.atoms in
     let s = numbered c.args.first in
-    let ks = c.deref-part-items.result.now in
+    let ks = c.args.parts.now in
     let i = c.loop-part.part-index in
     let part = c.part-item.result in
-    let whole = subst (λ js. IsPattern names js c.requires.pattern.0) (sym c.deref-part-items.ensures.value) c.requires.pattern.1 in
+    let whole = c.requires.pattern.1 in
     let count = gathers-count s (so_far names ks i) c.loop-part.invariant.gathers in
     rw (c.loop-part.invariant.count)
     (subst (λ n. IsReady (length c.args.places.now.items) n part) (sym count)
@@ -26,10 +26,10 @@ make_part-requires-clause-ready c =
 pub returns-in_err-make_part-clause-few : goal.returns-in_err-make_part-clause-few
 returns-in_err-make_part-clause-few c t pattern =
     let names = take c.args.heap.now.named c.args.heap.now.atoms in
-    let ks = c.deref-part-items.result.now in
+    let ks = c.args.parts.now in
     let i = c.loop-part.part-index in
     let part = c.part-item.result in
-    let whole = subst (λ js. IsPattern names js t) (sym c.deref-part-items.ensures.value) pattern in
+    let whole = pattern in
     let count = gathers-count (numbered c.args.first) (so_far names ks i) c.loop-part.invariant.gathers in
     let same = ap (λ n. part_cells 0 (λ m. m + 1) n part) count in
     let within = cells-more names ks t whole 0 (λ n. n + 1) i part c.loop-part-test.true c.part-item.is in
@@ -43,17 +43,17 @@ returns-in_err-make_part-clause-goes_on c = goes-then c.loop-part.invariant.goes
 pub returns-in_err-make_part-clause-others : goal.returns-in_err-make_part-clause-others
 returns-in_err-make_part-clause-others c t pattern k none =
     let names = take c.args.heap.now.named c.args.heap.now.atoms in
-    let ks = c.deref-part-items.result.now in
+    let ks = c.args.parts.now in
     let i = c.loop-part.part-index in
     let so = c.loop-part.invariant in
     let now = c.loop-part.heap in
-    let whole = subst (λ js. IsPattern names js t) (sym c.deref-part-items.ensures.value) pattern in
+    let whole = pattern in
     c.make_part.ensures.others k (no-piece (take now.named now.atoms) c.args.first now.area.low c.loop-part.pieces.items (so_far names ks i) k so.gathers.terms (not-so-far names ks t whole i k none)) ∙ so.others t whole k none
 
 pub returns-clause-others : goal.returns-clause-others
 returns-clause-others c t pattern k none =
     let names = take c.args.heap.now.named c.args.heap.now.atoms in
-    let whole = subst (λ js. IsPattern names js t) (sym c.deref-part-items.ensures.value) pattern in
+    let whole = pattern in
     c.loop-part.invariant.others t whole k none
 
 pub loop-part-preserved : goal.loop-part-preserved
@@ -61,7 +61,7 @@ loop-part-preserved c =
     let old = c.args.heap.now in
     let names = take old.named old.atoms in
     let s = numbered c.args.first in
-    let ks = c.deref-part-items.result.now in
+    let ks = c.args.parts.now in
     let i = c.loop-part.part-index in
     let part = c.part-item.result in
     let so = c.loop-part.invariant in
@@ -88,8 +88,8 @@ pub returns-clause-made : goal.returns-clause-made
 returns-clause-made c t pattern =
     let names = take c.args.heap.now.named c.args.heap.now.atoms in
     let s = numbered c.args.first in
-    let ks = c.deref-part-items.result.now in
-    let whole = subst (λ js. IsPattern names js t) (sym c.deref-part-items.ensures.value) pattern in
+    let ks = c.args.parts.now in
+    let whole = pattern in
     let all = all-parts names ks t whole c.loop-part.part-index c.loop-part-test.false in
     let gathered = rw (c.in-Some.ensures.items, all) at c.loop-part.invariant.gathers in
     gathers-one c.pop.new.self.items c.in-Some.piece (apply s t) gathered

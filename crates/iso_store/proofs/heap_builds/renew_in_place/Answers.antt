@@ -64,18 +64,18 @@ module _ (c : After-make_parts) where
   free : (m : ℕ) → c.reserve-first.result ≤ m → list_any (has_cell_number m) known.area.low ≡ false
   free m above = ap (λ a. list_any (has_cell_number m) a.low) c.know_names.ensures.area ∙ c.reserve-first.ensures.free m above
 
-  whole : (t : Tree) → IsPattern now.atoms c.args.pattern.now.parts.items t → IsPattern (take known.named known.atoms) c.args.pattern.now.parts.items t
-  whole t pattern = subst (λ ns. IsPattern ns c.args.pattern.now.parts.items t) (sym (c.know_names.ensures.every ∙ c.reserve-first.ensures.names)) pattern
+  whole : (t : Tree) → IsPattern now.atoms c.args.parts.now t → IsPattern (take known.named known.atoms) c.args.parts.now t
+  whole t pattern = subst (λ ns. IsPattern ns c.args.parts.now t) (sym (c.know_names.ensures.every ∙ c.reserve-first.ensures.names)) pattern
 
-  fits : (t : Tree) → IsPattern now.atoms c.args.pattern.now.parts.items t → arities_fit t ≡ true
+  fits : (t : Tree) → IsPattern now.atoms c.args.parts.now t → arities_fit t ≡ true
   fits t pattern =
       let r = c.requires.pattern in
-      subst (λ u. arities_fit u ≡ true) (pattern-one now.atoms c.args.pattern.now.parts.items r.0 t r.1 pattern) r.2
+      subst (λ u. arities_fit u ≡ true) (pattern-one now.atoms c.args.parts.now r.0 t r.1 pattern) r.2
 
-  cells : (t : Tree) → IsPattern now.atoms c.args.pattern.now.parts.items t → Grows (as_present now) (as_present after) (size t) (variable_count t)
+  cells : (t : Tree) → IsPattern now.atoms c.args.parts.now t → Grows (as_present now) (as_present after) (size t) (variable_count t)
   cells t pattern =
       let few = c.make_parts.ensures.few t (whole t pattern) in
-      let within = cells-within t (pattern-term now.atoms c.args.pattern.now.parts.items t pattern (fits t pattern)) in
+      let within = cells-within t (pattern-term now.atoms c.args.parts.now t pattern (fits t pattern)) in
       let occurring = goes-occurring c.make_parts.ensures.goes_on t c.args.count c.make_parts.new.places.items next-known free c.make_parts.ensures.cells
       (λ k below none. c.make_parts.ensures.others t (whole t pattern) k none ∙ ap (λ v. slice_get v k) c.in_ok-places.ensures ∙ none-at None c.args.count k below) in
       goes-grows c.make_parts.ensures.goes_on (as_present now) (as_present c.reserve-first.new.self) (cells_of 0 (λ n. n + 1) t) (size t) (variable_count t) c.reserve-first.ensures.cells long variables-same room few within occurring

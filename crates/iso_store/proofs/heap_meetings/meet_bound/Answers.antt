@@ -26,9 +26,9 @@ returns-then-eq c =
 
 pub returns : goal.returns
 returns c =
-    let shapes = c.meet_shapes.ensures in
+    let shapes = c.meet_bodies.ensures in
     record {
-      met = met-kept _ _ _ c.meet_shapes.result shapes.meeting shapes.one_term shapes.other_term;
+      met = met-kept _ _ _ c.meet_bodies.result shapes.meeting shapes.one_term shapes.other_term;
       places = places-kept _ _;
       cells = grows-none _;
       full = λ e. absurd (cc);

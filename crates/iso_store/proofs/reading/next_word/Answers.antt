@@ -17,7 +17,7 @@ read_variables-count-requires-clause-read g c =
     (left_terms (g.S.Primitives.present c.args.store.now) us, r.0, over-left _ _ _ _ _ _ _ _ _ (length c.loop-inner.values.items) u.count so.values u.word us (us ++ u ∷ []) refl so.read r.0 r.1)
 
 -- what is left when variables were read
-over : (g : Over) (c : After-read_variables-count g) → ReadOver (g.S.Primitives.present c.args.store.now) (g.S.Primitives.names c.args.store.now) c.args.head.now.parts.items (length c.args.values.now.items) c.args.past c.args.values.now.items
+over : (g : Over) (c : After-read_variables-count g) → ReadOver (g.S.Primitives.present c.args.store.now) (g.S.Primitives.names c.args.store.now) c.args.head.now (length c.args.values.now.items) c.args.past c.args.values.now.items
     (left_terms (g.S.Primitives.present c.args.store.now) (c.args.left.now.items ++ c.args.inner.now ∷ [])) c.read_variables-count.new.values.items
     (left_terms (g.S.Primitives.present c.args.store.now) c.loop-inner.left.items ++ first_arguments (g.S.Primitives.present c.args.store.now) c.loop-inner.inner.word c.read_variables-count.result.0) c.read_variables-count.result.1
 over g c =

@@ -10,7 +10,7 @@ invariant-loop-inner g l = record {
   values : length l.values.items ≡ length l.fn.values.items;
   unread : AreUnread (g.S.Primitives.present l.store) l.left.items;
   inner : MayHaveArguments (g.S.Primitives.present l.store) l.inner;
-  read : ReadOver (g.S.Primitives.present l.store) (g.S.Primitives.names l.store) l.head.parts.items (length l.fn.values.items) l.past l.fn.values.items (left_terms (g.S.Primitives.present l.store) (l.fn.left.items ++ l.fn.inner ∷ [])) l.values.items
+  read : ReadOver (g.S.Primitives.present l.store) (g.S.Primitives.names l.store) l.head (length l.fn.values.items) l.past l.fn.values.items (left_terms (g.S.Primitives.present l.store) (l.fn.left.items ++ l.fn.inner ∷ [])) l.values.items
       (left_terms (g.S.Primitives.present l.store) (l.left.items ++ l.inner ∷ [])) l.at;
 }
 

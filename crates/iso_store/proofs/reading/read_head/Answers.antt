@@ -6,7 +6,7 @@ use Rattle.iso_store.proofs.reading.read_head.Goals.{In-Some}
 use Rattle.iso_store.proofs.reading.read_head.Goals as goal
 
 -- what is left when a part was read
-ahead : (g : Over) (c : In-Some g) → (c.in-Some.rest < c.loop-met.at) × IsAhead (g.S.Primitives.present c.args.store.now) (g.S.Primitives.names c.args.store.now) c.args.head.now.parts.items (length c.args.values.now.items) c.args.goal
+ahead : (g : Over) (c : In-Some g) → (c.in-Some.rest < c.loop-met.at) × IsAhead (g.S.Primitives.present c.args.store.now) (g.S.Primitives.names c.args.store.now) c.args.head.now (length c.args.values.now.items) c.args.goal
     c.read_part.new.values.items c.read_part.new.later.items (left_terms (g.S.Primitives.present c.args.store.now) (c.read_part.new.left.items ++ c.read_part.new.inner ∷ [])) c.in-Some.rest
 ahead g c =
     let so = c.loop-met.invariant in

@@ -7,7 +7,7 @@ use Rattle.iso_store.proofs.reading.read_head.Given as goal
 
 abbrev pub invariant-loop-met : goal.invariant-loop-met
 invariant-loop-met g l = record {
-  ahead : IsAhead (g.S.Primitives.present l.store) (g.S.Primitives.names l.store) l.head.parts.items (length l.fn.values.items) l.fn.goal l.values.items l.later.items
+  ahead : IsAhead (g.S.Primitives.present l.store) (g.S.Primitives.names l.store) l.head (length l.fn.values.items) l.fn.goal l.values.items l.later.items
       (left_terms (g.S.Primitives.present l.store) (l.left.items ++ l.inner ∷ []) ++ meaning (g.S.Primitives.present l.store) l.word ∷ []) l.at;
   unread : AreUnread (g.S.Primitives.present l.store) l.left.items;
   inner : MayHaveArguments (g.S.Primitives.present l.store) l.inner;

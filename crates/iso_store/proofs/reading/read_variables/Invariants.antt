@@ -8,7 +8,7 @@ invariant-loop-count g l = record {
   within : l.count ≤ l.many;
   parts : l.at + l.many ≡ l.past + l.count;
   values : length l.values.items ≡ length l.fn.values.items;
-  read : ReadFrom (g.S.Primitives.present l.store) l.word l.many (g.S.Primitives.names l.store) l.head.parts.items (length l.fn.values.items) l.past l.fn.values.items l.values.items l.count l.at;
+  read : ReadFrom (g.S.Primitives.present l.store) l.word l.many (g.S.Primitives.names l.store) l.head (length l.fn.values.items) l.past l.fn.values.items l.values.items l.count l.at;
 }
 
 abbrev pub decreases-loop-count : goal.decreases-loop-count

@@ -7,7 +7,7 @@ abbrev pub invariant-loop-needed : goal.invariant-loop-needed
 invariant-loop-needed l = record {
   within : l.from ≤ l.past;
   few : l.needed ≤ l.from;
-  starts : (names : List (List ℕ)) → Starts names l.head.parts.items l.from l.past l.needed;
+  starts : (names : List (List ℕ)) → Starts names l.head l.from l.past l.needed;
 }
 
 abbrev pub decreases-loop-needed : goal.decreases-loop-needed

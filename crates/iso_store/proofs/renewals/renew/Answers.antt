@@ -15,12 +15,12 @@ use Rattle.iso_store.proofs.renewals.renew.Goals as goal
 pub renew_part-requires-clause-ready : goal.renew_part-requires-clause-ready
 renew_part-requires-clause-ready g c =
     let names = g.S.Primitives.names c.reserve-first.new.self in
-    let ks = c.deref-part-items.result.now in
+    let ks = c.args.parts.now in
     let i = c.loop-part.part-index in
     let part = c.part-item.result in
     let so = c.loop-part.invariant in
     let r = c.requires.pattern in
-    let whole = subst (λ js. IsPattern names js r.0) (sym c.deref-part-items.ensures.value) (subst (λ ns. IsPattern ns c.args.pattern.now.parts.items r.0) (sym c.reserve-first.ensures.names) r.1) in
+    let whole = subst (λ ns. IsPattern ns c.args.parts.now r.0) (sym c.reserve-first.ensures.names) r.1 in
     let count = gathers-count (numbered c.reserve-first.result) (so_far names ks i) so.gathers in
     subst (λ n. IsReady n (length c.loop-part.words.items) part) (sym so.count)
     (subst (λ n. IsReady c.args.count n part) (sym count) (part-is-ready names ks r.0 whole i part c.args.count c.loop-part-test.true c.part-item.is r.2 r.3))
@@ -30,11 +30,11 @@ returns-in_err-renew_part-clause-cells g c t pattern =
     let names = g.S.Primitives.names c.reserve-first.new.self in
     let atomic = g.S.Primitives.atomic in
     let width = g.S.Primitives.width in
-    let ks = c.deref-part-items.result.now in
+    let ks = c.args.parts.now in
     let i = c.loop-part.part-index in
     let part = c.part-item.result in
     let so = c.loop-part.invariant in
-    let whole = subst (λ js. IsPattern names js t) (sym c.deref-part-items.ensures.value) (subst (λ ns. IsPattern ns c.args.pattern.now.parts.items t) (sym c.reserve-first.ensures.names) pattern) in
+    let whole = subst (λ ns. IsPattern ns c.args.parts.now t) (sym c.reserve-first.ensures.names) pattern in
     let same = ap (λ n. part_cells atomic width n part) (gathers-count (numbered c.reserve-first.result) (so_far names ks i) so.gathers) in
     let within = cells-more names ks t whole atomic width i part c.loop-part-test.true c.part-item.is in
     let seen = step-seen names c.loop-part.known.items part (so_far names ks i) so.left in
@@ -52,7 +52,7 @@ loop-part-preserved g c =
     let names = g.S.Primitives.names c.reserve-first.new.self in
     let atomic = g.S.Primitives.atomic in
     let width = g.S.Primitives.width in
-    let ks = c.deref-part-items.result.now in
+    let ks = c.args.parts.now in
     let i = c.loop-part.part-index in
     let part = c.part-item.result in
     let so = c.loop-part.invariant in
@@ -76,9 +76,9 @@ loop-part-preserved g c =
 pub returns-clause-made : goal.returns-clause-made
 returns-clause-made g c t pattern =
     let names = g.S.Primitives.names c.reserve-first.new.self in
-    let ks = c.deref-part-items.result.now in
+    let ks = c.args.parts.now in
     let so = c.loop-part.invariant in
-    let whole = subst (λ js. IsPattern names js t) (sym c.deref-part-items.ensures.value) (subst (λ ns. IsPattern ns c.args.pattern.now.parts.items t) (sym c.reserve-first.ensures.names) pattern) in
+    let whole = subst (λ ns. IsPattern ns c.args.parts.now t) (sym c.reserve-first.ensures.names) pattern in
     let all = all-parts names ks t whole c.loop-part.part-index c.loop-part-test.false in
     let gathered = rw (c.in-Some.ensures.items, all) at so.gathers in
     let made = gathers-one c.pop.new.self.items c.in-Some.word (apply (numbered c.reserve-first.result) t) gathered in
@@ -103,10 +103,10 @@ returns-clause-cells g c t pattern =
     let names = g.S.Primitives.names c.reserve-first.new.self in
     let atomic = g.S.Primitives.atomic in
     let width = g.S.Primitives.width in
-    let ks = c.deref-part-items.result.now in
+    let ks = c.args.parts.now in
     let i = c.loop-part.part-index in
     let so = c.loop-part.invariant in
-    let whole = subst (λ js. IsPattern names js t) (sym c.deref-part-items.ensures.value) (subst (λ ns. IsPattern ns c.args.pattern.now.parts.items t) (sym c.reserve-first.ensures.names) pattern) in
+    let whole = subst (λ ns. IsPattern ns c.args.parts.now t) (sym c.reserve-first.ensures.names) pattern in
     let cells = cells-so-far names ks t whole atomic width i in
     let all = seen-so-far names ks t whole i in
     grows-both _ _ c.reserve-first.ensures.cells so.cells (omega (arith, cells, all)) (omega (arith, all))

@@ -17,7 +17,7 @@ returns-in_err-code g c =
     let word = c.word-item.result in
     let form = form_of c.args.form in
     let k = key c.args.by.now 2 in
-    handed_on (IsText (elements_codes form ts k)) c.from_residual.result c.in_err-code.field-0.0 c.from_residual.ensures.1
+    handed_on (IsText (elements_codes form ts k)) c.from_residual-in_err-code.result c.in_err-code.field-0.0 c.from_residual-in_err-code.ensures.1
     (stops form ts k i (meaning p word) (string_bytes c.loop-word.text) c.in_err-code.field-0.0 c.loop-word.invariant
     (keys_left p c.args.words.now i word c.loop-word-test.true c.word-item.is) c.in_err-code.ensures)
 

@@ -11,7 +11,7 @@ loop-place-init c =
     let all = ap (λ s. s.rest.now) same ∙ c.char_indices-place-items.ensures.rest in (
       0,
       subst (λ (n : ℕ). IsPlace text 0 n c.into_iter-place-iterator.result.rest.now) (sym at_begin) (subst (IsPlace text 0 0) (sym all) (first_place text c.utf8.text)),
-      splits_begin text c.new-kept.result.items c.new-kept.ensures.items,
+      splits_begin text c.in_ok-kept.kept.items c.in_ok-kept.ensures.items,
     )
 
 pub loop-place-preserved : goal.loop-place-preserved

@@ -15,7 +15,7 @@ loop-start-init c =
       0,
       omega (arith, counted),
       subst (λ (n : ℕ). IsPlace text 0 n c.into_iter-start-iterator.result.rest.now) (sym at_begin) (subst (IsPlace text 0 0) (sym all) (first_place text c.utf8.text)),
-      sub_begin text c.args.asked (text_of c.args.part) c.new-kept.result.items c.new-kept.ensures.items,
+      sub_begin text c.args.asked (text_of c.args.part) c.in_ok-kept.kept.items c.in_ok-kept.ensures.items,
     )
 
 pub keep_at-requires-clause-rest : goal.keep_at-requires-clause-rest

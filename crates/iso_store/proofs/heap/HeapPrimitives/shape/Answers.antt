@@ -1,14 +1,8 @@
-use Rattle.std.proofs.Common.{take, ap, sym, ◌∙◌, rules}
+use Rattle.std.proofs.Common.{take, sym, ◌∙◌, rules}
 use Rattle.std.proofs.lemmas.Int.{to_z-of_z}
 use mir.Val.{SFits}
 use mir.Syntax.{w128}
-use Rattle.iso_model.specs.Terms.Trees.{Apply, row}
-use Rattle.iso_model.specs.Terms.Substitutions.{apply}
-use Rattle.iso_store_core.proofs.AtomLemmas.{text-kept, atom-kept}
-use Rattle.iso_store.specs.HeapTerms.{heap_substitution}
-use Rattle.iso_store.specs.HeapLemmas.{terms_before}
-use Rattle.iso_store.proofs.HeapNames.{first-kept}
-use Rattle.iso_store.proofs.HeapReads.{shows_variable, shows_wide, shows_compound, compound_count}
+use Rattle.iso_store.proofs.HeapReads.{shows_variable, shows_wide}
 use Rattle.iso_store.specs.HeapSorted.{sorted-meaning}
 use Rattle.iso_store.proofs.heap.HeapPrimitives.shape.Goals as goal
 
@@ -35,21 +29,7 @@ returns-in-Boxed-clause-term c =
     sorted-meaning (take now.named now.atoms) now.area.low now.next now.is_heap c.args.word c.requires
 
 pub returns-in-Structure-clause-shape : goal.returns-in-Structure-clause-shape
-returns-in-Structure-clause-shape c =
-    let now = c.args.self.now in
-    let names = take now.named now.atoms in
-    let keeps = first-kept now.atoms now.named in
-    let there = c.functor-name.ensures in
-    let name = c.functor-name.result.0 in
-    let count = c.functor-name.result.1 in
-    let known = (now.is_heap.functor c.in-Structure.place name count there).name in
-    let ts = apply (heap_substitution names now.area.low) (row (terms_before names now.area.low c.in-Structure.place count)) in
-    let shown = sym c.in-Structure.ensures.same ∙ shows_compound names now.area.low now.next now.is_heap c.in-Structure.place name count there in (
-      atom-kept names now.atoms keeps name known,
-      ts,
-      shown ∙ ap (λ f. Apply f ts) (sym (text-kept names now.atoms keeps name known)),
-      compound_count names now.area.low now.next now.is_heap c.in-Structure.place name count there,
-    )
+returns-in-Structure-clause-shape c = rw c.in-Structure.ensures.same at c.compound_shape.ensures.shape
 
 pub returns-in-Structure-clause-term : goal.returns-in-Structure-clause-term
 returns-in-Structure-clause-term c =

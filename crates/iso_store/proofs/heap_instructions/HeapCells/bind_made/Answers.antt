@@ -13,7 +13,7 @@ use Rattle.iso_store.proofs.heap_instructions.HeapCells.bind_made.Goals as goal
 pub unreachable-requires : goal.unreachable-requires
 unreachable-requires c =
     let now = c.args.self.now in
-    let found = end_is_variable (take now.named now.atoms) now.area.low now.next now.is_heap c.walked.result c.requires.apart.0 c.walked.ensures.holds c.walked.ensures.end (c.walked.ensures.same ∙ c.requires.apart.1) in
+    let found = end_is_variable (take now.named now.atoms) now.area.low now.next now.is_heap c.walked_near.result c.requires.apart.0 c.walked_near.ensures.holds c.walked_near.ensures.end (c.walked_near.ensures.same ∙ c.requires.apart.1) in
     c.in_default.not-Var found.0 found.1
 
 pub number-number-requires-clause-index : goal.number-number-requires-clause-index

@@ -4,7 +4,7 @@ use Rattle.std.specs.List.{All}
 use Rattle.iso_model.specs.Search.Arithmetic.{value}
 use Rattle.iso_store_core.specs.Presents.{meaning}
 use Rattle.iso_arith.specs.Evaluations.{IsTask, IsNext, tasks_value, next_value, tasks_load, next_load}
-use Rattle.iso_arith.proofs.evaluation.eval.Given as goal
+use Rattle.iso_arith.proofs.evaluation.eval_any.Given as goal
 
 abbrev pub invariant-evaluating : goal.invariant-evaluating
 invariant-evaluating g l = record {

@@ -1,7 +1,7 @@
 use Rattle.std.proofs.Common.{◌≡◌, ◌<◌, [], length, arith, ap, subst, true≢false}
 use Rattle.std.specs.Bool.{MatchBool}
 use Rattle.iso_program.proofs.LeavingLemmas.{left_behind}
-use Rattle.iso_machine.proofs.calling.lacks_room.Goals as goal
+use Rattle.iso_machine.proofs.calling.lacks_more.Goals as goal
 
 pub has_room-requires : goal.has_room-requires
 has_room-requires g c =

@@ -7,7 +7,7 @@ use Rattle.iso_model.specs.Search.Arithmetic.{value}
 use Rattle.iso_store_core.specs.Presents.{meaning}
 use Rattle.iso_arith.specs.Evaluations.{IsTask, task_value, next_load}
 use Rattle.iso_arith.proofs.EvaluationLemmas.{fault_stays, fault_answers, term_next, task_next, made_next, tasks_load-more}
-use Rattle.iso_arith.proofs.evaluation.eval.Goals as goal
+use Rattle.iso_arith.proofs.evaluation.eval_any.Goals as goal
 
 pub returns-in_err-next-in-Term : goal.returns-in_err-next-in-Term
 returns-in_err-next-in-Term g c =
