@@ -63,7 +63,7 @@ pub fn meet_gets<S: Cells>(
     ensures rest { RetainsAll S.Store store.old store.new }
 {
     match gets {
-        // One variable: since it is known here that it is, this is compiled to code without a loop.
+        // At most four variables alone: since it is known here that they are, this is compiled to code without a loop.
         [
             Get {
                 argument,
@@ -75,6 +75,96 @@ pub fn meet_gets<S: Cells>(
                 operand: Operand::New(*variable),
             }];
             meet_each(store, &one, arguments, environment, compounds)
+        }
+        [
+            Get {
+                argument: first,
+                operand: Operand::New(first_variable),
+            },
+            Get {
+                argument: second,
+                operand: Operand::New(second_variable),
+            },
+        ] => {
+            let all = [
+                Get {
+                    argument: *first,
+                    operand: Operand::New(*first_variable),
+                },
+                Get {
+                    argument: *second,
+                    operand: Operand::New(*second_variable),
+                },
+            ];
+            meet_each(store, &all, arguments, environment, compounds)
+        }
+        [
+            Get {
+                argument: first,
+                operand: Operand::New(first_variable),
+            },
+            Get {
+                argument: second,
+                operand: Operand::New(second_variable),
+            },
+            Get {
+                argument: third,
+                operand: Operand::New(third_variable),
+            },
+        ] => {
+            let all = [
+                Get {
+                    argument: *first,
+                    operand: Operand::New(*first_variable),
+                },
+                Get {
+                    argument: *second,
+                    operand: Operand::New(*second_variable),
+                },
+                Get {
+                    argument: *third,
+                    operand: Operand::New(*third_variable),
+                },
+            ];
+            meet_each(store, &all, arguments, environment, compounds)
+        }
+        [
+            Get {
+                argument: first,
+                operand: Operand::New(first_variable),
+            },
+            Get {
+                argument: second,
+                operand: Operand::New(second_variable),
+            },
+            Get {
+                argument: third,
+                operand: Operand::New(third_variable),
+            },
+            Get {
+                argument: fourth,
+                operand: Operand::New(fourth_variable),
+            },
+        ] => {
+            let all = [
+                Get {
+                    argument: *first,
+                    operand: Operand::New(*first_variable),
+                },
+                Get {
+                    argument: *second,
+                    operand: Operand::New(*second_variable),
+                },
+                Get {
+                    argument: *third,
+                    operand: Operand::New(*third_variable),
+                },
+                Get {
+                    argument: *fourth,
+                    operand: Operand::New(*fourth_variable),
+                },
+            ];
+            meet_each(store, &all, arguments, environment, compounds)
         }
         _ => meet_each(store, gets, arguments, environment, compounds),
     }

@@ -9,7 +9,7 @@ use Rattle.iso_compile.specs.Table.{Registers, part_row}
 use Rattle.iso_code.specs.Loaded.{IsMet, part_at}
 use Rattle.iso_code.specs.Standing.{Known}
 use Rattle.iso_writing.specs.Writing.{Adds}
-use Rattle.iso_writing.proofs.wide.known_words.Given as goal
+use Rattle.iso_writing.proofs.wide.known_each.Given as goal
 
 abbrev pub invariant-loop-index : goal.invariant-loop-index
 invariant-loop-index g l = record {
