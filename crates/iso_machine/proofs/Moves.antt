@@ -10,6 +10,7 @@ pub mod Instruction
 pub mod Kept
 pub mod Last
 pub mod Level
+pub mod Shallow
 pub mod Split
 pub mod Try
 pub mod Went

@@ -29,6 +29,7 @@ ghost use Rattle.iso_machine.specs.Newest.{frames_kept, words_kept};
 
 use super::calling::{Gone, call, give_up};
 use super::framed::Framed;
+use super::shallow::{call_first, may_keep};
 use iso_atoms::Atom;
 use iso_cells::Cells;
 use iso_db::{ClauseId, KeyedView};
@@ -87,6 +88,10 @@ pub(crate) fn go<S: Cells + Drop>(
     ensures steps { IfOk result (λ gone. search.new.steps < search.old.steps) }
 {
     make_ready(search, put.name, put.behind);
+    if may_keep(search, later) {
+        call_first(search, clause, later, put)?;
+        return Ok(Gone::Went);
+    }
     match call(search, clause, later, put, last)? {
         Gone::Went => Ok(Gone::Went),
         Gone::Full => {
