@@ -13,4 +13,5 @@ pub mod Level
 pub mod Shallow
 pub mod Split
 pub mod Try
+pub mod Unpushed
 pub mod Went

@@ -95,7 +95,7 @@ fn go_far<S: Cells + Drop>(search: &mut Search<S, Framed<S>>, place: Rest)
 
 /// Goes on at the list from this place on.
 #[inline(always)]
-fn go_behind<S: Cells + Drop>(search: &mut Search<S, Framed<S>>, place: Rest)
+pub(crate) fn go_behind<S: Cells + Drop>(search: &mut Search<S, Framed<S>>, place: Rest)
     requires { (ms : List Member) × IsList S.atom_word (S.present search.old.store) search.old.lists
         (extent_of search.old.lists) (Some place) ms }
     ensures { HasGone S.Store S.atom_word search.old place search.new }
@@ -109,7 +109,7 @@ fn go_behind<S: Cells + Drop>(search: &mut Search<S, Framed<S>>, place: Rest)
 
 /// Goes on from what the arithmetic there came to: at the address below it, to failure, or to the ball that is thrown.
 /// The errors are those of the answer: the store is full, or memory was refused.
-fn go_on_from<S: Cells + Drop>(
+pub(crate) fn go_on_from<S: Cells + Drop>(
     search: &mut Search<S, Framed<S>>,
     answered: Result<Reply, Fault>,
     rest: Rest,

@@ -1,5 +1,5 @@
 -- A call whose later clauses are a choice that is not pushed yet: with it the engine is as if it had been pushed.
-use Rattle.std.proofs.Common.{◌≡◌, ◌≤◌, ◌<◌, ◌+◌, ℕ, List, [], ◌∷◌, ◌++◌, length, take, map, Option, Ok, refl, ap, sym, ◌∙◌, subst, arith, Global}
+use Rattle.std.proofs.Common.{◌≡◌, ◌≤◌, ◌<◌, ◌+◌, ℕ, List, [], ◌∷◌, ◌++◌, ◌-◌, length, take, map, Option, Some, None, OnErr, Result, Ok, Err, inr, refl, ap, sym, ◌∙◌, subst, arith, Global}
 use Rattle.std.specs.declared.rc.Rc.{Rc}
 use Rattle.std.specs.List.{slice_get}
 use Rattle.std.proofs.lemmas.List.{length-append}
@@ -10,8 +10,13 @@ use Rattle.iso_model.specs.Search.Engines.{IsAwake}
 use Rattle.iso_model.specs.Search.Walker.{State, Member, cut_back, tried_clause, with_others}
 use Rattle.iso_db.specs.declared.keyed.KeyedView.{KeyedView}
 use Rattle.iso_db.specs.Keyed.{remaining_keyed}
-use Rattle.iso_program.specs.Leaving.{AreLeft, most_left}
+use Rattle.iso_db.specs.Databases as held
+use Rattle.iso_db.specs.Presents.{GivesKeyed}
+use Rattle.iso_program.specs.Leaving.{AreLeft, NextLeft, most_left}
+use Rattle.iso_program.specs.Programs.{AreClauses}
 use Rattle.iso_store_core.specs.Presents.{Present, KeepsMarks, meaning}
+use Rattle.iso_store_core.specs.declared.shapes.StoreFault.{StoreFault}
+use Rattle.iso_store_core.specs.declared.shapes.StoreFault.TheVariants as fault
 use Rattle.iso_store_core.specs.declared.stores.Store.{Ghosts}
 use Rattle.iso_plain_core.specs.Entering as entering
 use Rattle.iso_compile.specs.Control.{height}
@@ -22,14 +27,15 @@ use Rattle.iso_search_core.specs.Bodies.{body_cost, left_cost, most}
 use Rattle.iso_search_core.specs.Costs.{choices_cost, now_cost}
 use Rattle.iso_search_core.specs.Own.{own_of}
 use Rattle.iso_search_core.specs.Fitting.{FitsState}
-use Rattle.iso_search_core.specs.Standing.{GainsChoice, GoesOn}
+use Rattle.iso_search_core.specs.Standing.{BringsBack, GainsChoice, GoesOn}
 use Rattle.iso_search_core.specs.declared.choices.Choice.{Choice}
+use Rattle.iso_search_core.specs.declared.choices.Attempt.{Attempt}
 use Rattle.iso_search_core.specs.declared.choices.Left.TheVariants as left
 use Rattle.iso_search_core.specs.declared.nows.Now.{Now}
 use Rattle.iso_search_core.specs.declared.nows.Now.TheVariants as now
 use Rattle.iso_search_core.proofs.BodyCosts.{view_cost}
 use Rattle.iso_search_core.proofs.CostLemmas.{choices_last}
-use Rattle.iso_search_core.proofs.StandingLemmas.{choices_length, front_is, keeps_none, last_is, length_last, lower}
+use Rattle.iso_search_core.proofs.StandingLemmas.{choices_length, newest, front_is, keeps_none, last_is, length_last, lower}
 use Rattle.iso_frames.specs.Costs.{first_cost}
 use Rattle.iso_search.specs.declared.calls.Next.TheVariants as calls
 use Rattle.iso_frames.specs.Frames.{Levels}
@@ -40,9 +46,12 @@ use Rattle.iso_frames.specs.declared.frames.Level.{Level}
 use Rattle.iso_frames.specs.declared.frames.Frame.{Frame}
 use Rattle.iso_environments.specs.Goals.{goal_of}
 use Rattle.iso_environments.specs.Leveled.{IsAtClause}
-use Rattle.iso_search.specs.EngineStates.{IsAhead, IsBehind, Represents, StandsAs, cost, kept_cost, phase_of}
+use Rattle.iso_search.specs.EngineStates.{IsAhead, IsBehind, Remains, Represents, StandsAs, cost, kept_cost, phase_of}
 use Rattle.iso_search.specs.Stays.{Stays}
 use Rattle.iso_search.proofs.AheadLemmas.{ahead_cut}
+use Rattle.iso_search.proofs.BackLemmas.{GoesBack, goes_back}
+use Rattle.iso_search.proofs.ChoiceLemmas.{fewer_choices, fewer_next, has, next_of, retries_last, retries_next}
+use Rattle.iso_search.proofs.NewestLemmas.{with_left}
 use Rattle.iso_search.proofs.Moves.Call.{calls_later}
 use Rattle.iso_search.proofs.StoppedLemmas.{base_kept}
 use Rattle.iso_search.proofs.WeightLemmas.{gained_cost}
@@ -51,12 +60,14 @@ use Rattle.iso_machine.specs.declared.framed.Extent.{Extent}
 use Rattle.iso_machine.specs.declared.framed.Framed.{Framed}
 use Rattle.iso_machine.specs.declared.framed.KeptCall.{KeptCall}
 use Rattle.iso_machine.specs.declared.shallow.Unpushed.{Unpushed}
-use Rattle.iso_machine.specs.Engines.{Engine, framed}
+use Rattle.iso_machine.specs.declared.calling.Gone.{Gone}
+use Rattle.iso_machine.specs.declared.calling.Gone.TheVariants as gone
+use Rattle.iso_machine.specs.Engines.{Engine, EngineClause, framed}
 use Rattle.iso_machine.specs.GoalCalls.{CallsPut}
 use Rattle.iso_machine.specs.Instructions.{CutsAs, IsInstructionThere}
 use Rattle.iso_machine.specs.Came.{CameTo}
 use Rattle.iso_machine.specs.Lists.{IsFor, IsList, as_much, cost_at, extent_of, pending_at}
-use Rattle.iso_machine.specs.Unpushed.{Choices, HasPushed, HasTried, KeepsLater, choice_of, with_choices}
+use Rattle.iso_machine.specs.Unpushed.{CallsFor, Choices, Entering, HasPushed, HasTried, IsBack, KeepsLater, WasStopped, choice_of, with_choices}
 use Rattle.iso_machine.proofs.CameLemmas.{came_on}
 use Rattle.iso_machine.proofs.Moves.Cut.{below, cut_ahead, cut_at, cut_moved}
 use Rattle.iso_machine.proofs.Moves.Went.{came_moved}
@@ -108,21 +119,6 @@ module _ {S W M : Type 0} (g : Ghosts S W M) (atom_word : ℕ → W) where
       (words : entering.Adds e.lists.words.items lists.words.items) (store : S)
       (present : g.present store ≡ g.present e.store) (marks : KeepsMarks (g.stands e.store) (g.stands store))
       (texts : KeepsTexts (g.names e.store) (g.names store)) where
-    -- the engine itself is still to call
-    pub still_calls : (clause : ℕ) (later : KeyedView) (name : ℕ) (rest : Option Rest) (s : State) (goal : Tree)
-        (c : databases.Clause) (cs : List databases.Clause) (behind : List Member)
-        → CallsPut g atom_word e clause later name rest s goal c cs behind
-        → AreLeft (own_of (framed atom_word)) (g.names store) e.db clause later (c ∷ cs)
-        → CallsPut g atom_word (record e { store = store; lists = lists }) clause later name rest s goal c cs behind
-    still_calls clause later name rest s goal c cs behind t are = record {
-      ahead = marked_ahead (record e { lists = lists }) store present marks texts (record s { list = behind }) rest
-          (kept_ahead g atom_word e lists nodes frames words rest (record s { list = behind }) t.ahead);
-      space = t.space;
-      put = put_on atom_word (g.present e.store) (g.present store) e.lists lists name goal present arguments t.put;
-      clauses = are;
-      enter = t.enter;
-    }
-
     module _ (u : Unpushed M) (rests : KeyedView) (rest : Option Rest) (kept_is : u.kept ≡ extent_of lists)
         (stands : g.stands store u.mark (g.present e.store))
         (newer : (m : M) (p : Present W) → g.stands e.store m p → g.older m u.mark)
@@ -249,45 +245,297 @@ module _ {S W M : Type 0} (g : Ghosts S W M) (atom_word : ℕ → W) where
 
   module _ (old kept new : Engine S W M) (clause : ℕ) (later rests : KeyedView) (name : ℕ) (rest : Option Rest)
       (u : Unpushed M) (keeps : KeepsLater g atom_word old kept later rests name rest u) (count : ℕ)
-      (many : count ≡ length old.choices.items)
-      (tried : (choices : Choices W M) (s : State) (goal : Tree) (c : databases.Clause) (cs : List databases.Clause)
-      (behind : List Member) (view : KeyedView)
-      → CallsPut g atom_word (with_choices kept choices) clause view name rest s goal c cs behind
-      → StandsAs g (framed atom_word) (with_choices new choices) (tried_clause goal c count behind s))
-      (costs : (choices : Choices W M) (s : State) (goal : Tree) (c : databases.Clause) (cs : List databases.Clause)
-      (behind : List Member) (view : KeyedView)
-      → CallsPut g atom_word (with_choices kept choices) clause view name rest s goal c cs behind
-      → cost (framed atom_word) (with_choices new choices)
-      ≤ kept_cost (framed atom_word) (with_choices kept choices) + body_cost most (cost_at kept.lists rest))
-      (same : cost_at kept.lists rest ≡ cost_at old.lists rest) (awake : IsAwake (phase_of new.now))
-      (steps : new.steps ≡ old.steps) (stays : Stays g old new) (room : length old.choices.items < old.limit)
-      (s : State) (goal : Tree) (c : databases.Clause) (cs : List databases.Clause) (behind : List Member)
-      (calls : CallsPut g atom_word old clause later name rest s goal c cs behind) where
-    pub has_tried : (choices : Choices W M) → HasPushed old u rests rest choices
+      (many : count ≡ length old.choices.items) (result : Result Gone StoreFault)
+      (over : (choices : Choices W M)
+      → Entering g atom_word (with_choices kept choices) (with_choices new choices) clause name rest count result)
+      (stays : Stays g old new) (room : length old.choices.items < old.limit) where
+    with_stays : (choices : Choices W M) → HasPushed old u rests rest choices → Stays g old (with_choices new choices)
+    with_stays choices pushed = record {
+      limit = stays.limit;
+      vocabulary = stays.vocabulary;
+      names_kept = stays.names_kept;
+      base = stays.base;
+      within = λ within. (let all = ap length pushed in
+          let one = length_last old.choices.items (choice_of u rests rest) in
+          let limit = stays.limit in
+          omega (arith, all, one, room, limit));
+    }
+
+    pub has_tried : (same : cost_at kept.lists rest ≡ cost_at old.lists rest) → IsAwake (phase_of new.now)
+        → new.steps ≡ old.steps → result ≡ Ok gone.Went → (s : State) (goal : Tree) (c : databases.Clause)
+        (cs : List databases.Clause) (behind : List Member)
+        → CallsPut g atom_word old clause later name rest s goal c cs behind
+        → (choices : Choices W M) → HasPushed old u rests rest choices
         → HasTried g atom_word old (with_choices new choices) clause later name rest
-    has_tried choices pushed = record {
+    has_tried same awake steps went s goal c cs behind calls choices pushed = record {
       tried = λ t call k ks gs again.
           (let height : count ≡ length t.stack = many ∙ choices_length (framed atom_word) again.ahead.choices in
           subst (λ (n : ℕ). StandsAs g (framed atom_word) (with_choices new choices)
           (tried_clause call k n gs (with_others call ks gs t))) height
-          (tried choices (with_others call ks gs t) call k ks gs later
-          (keeps.calls choices pushed clause t call k ks gs again)));
+          ((over choices).tried (with_others call ks gs t) call k ks gs later
+          (keeps.calls choices pushed clause t call k ks gs again) went));
       awake = awake;
       steps = steps;
       costs =
-          (let whole = costs choices (with_others goal cs behind s) goal c cs behind later
-          (keeps.calls choices pushed clause s goal c cs behind calls) in
+          (let whole = (over choices).costs (with_others goal cs behind s) goal c cs behind later
+          (keeps.calls choices pushed clause s goal c cs behind calls) went in
           let first = keeps.costs choices pushed in
           let body = ap (λ (n : ℕ). body_cost most n) same in
           omega (arith, whole, first, body));
-      stays = record {
-        limit = stays.limit;
-        vocabulary = stays.vocabulary;
-        names_kept = stays.names_kept;
-        base = stays.base;
-        within = λ within. (let all = ap length pushed in
-            let one = length_last old.choices.items (choice_of u rests rest) in
-            let limit = stays.limit in
-            omega (arith, all, one, room, limit));
-      };
+      stays = with_stays choices pushed;
+    }
+
+    pub was_stopped : (reason : StoreFault) → result ≡ Err reason → (reason ≡ fault.Full → g.full new.store)
+        → (choices : Choices W M) → HasPushed old u rests rest choices
+        → WasStopped g atom_word old (with_choices new choices) clause later name rest reason
+    was_stopped reason is heap choices pushed = record {
+      kept = λ t call k ks gs again.
+          (let height : count ≡ length t.stack = many ∙ choices_length (framed atom_word) again.ahead.choices in
+          let on = (over choices).kept (with_others call ks gs t) call k ks gs later
+          (keeps.calls choices pushed clause t call k ks gs again) in
+          inr (subst (λ (n : ℕ). Remains g (framed atom_word) (with_choices new choices)
+          (tried_clause call k n gs (with_others call ks gs t))) height
+          (subst (λ (r : Result Gone StoreFault). OnErr r (Remains g (framed atom_word) (with_choices new choices)
+          (tried_clause call k count gs (with_others call ks gs t)))) is on)));
+      heap = heap;
+      stays = with_stays choices pushed;
+    }
+
+  -- ---- the next clause comes
+
+  -- with the choice that isn't pushed
+  module _ (e : Engine S W M) (u : Unpushed M) (later : KeyedView) (rest : Option Rest) (choices : Choices W M)
+      (pushed : HasPushed e u later rest choices) where
+    abbrev whole : Engine S W M
+    whole = with_choices e choices
+
+    abbrev choice : Choice W M Extent (Option Rest) KeptCall
+    choice = choice_of u later rest
+
+    abbrev attempt : Attempt KeptCall
+    attempt = record { clause = u.clause; later = later; call = u.call }
+
+    many_pushed : length choices.items ≡ length e.choices.items + 1
+    many_pushed = ap length pushed ∙ length_last e.choices.items choice
+
+    some_pushed : 0 < length choices.items
+    some_pushed = (let many = many_pushed in omega (arith, many))
+
+    newest_pushed : slice_get choices.items (length choices.items - 1) ≡ Some choice
+    newest_pushed =
+        let many = many_pushed in
+        let place : length choices.items - 1 ≡ length e.choices.items = omega (arith, many) in
+        ap (λ (n : ℕ). slice_get choices.items n) place
+        ∙ (ap (λ (xs : List _). slice_get xs (length e.choices.items)) pushed ∙ last_is e.choices.items choice)
+
+    front_pushed : take (length choices.items - 1) choices.items ≡ e.choices.items
+    front_pushed =
+        let many = many_pushed in
+        let place : length choices.items - 1 ≡ length e.choices.items = omega (arith, many) in
+        ap (λ (n : ℕ). take n choices.items) place
+        ∙ (ap (λ (xs : List _). take (length e.choices.items) xs) pushed ∙ front_is e.choices.items choice)
+
+    -- its mark stands
+    pub mark_stands : (s : State) → Represents g (framed atom_word) whole s → (p : Present W) × g.stands e.store u.mark p
+    mark_stands s r =
+        let n = newest (framed {S = S} {M = M} atom_word) choice newest_pushed r.engine.choices in
+        (n.here.present, n.here.mark)
+
+    pub extent_within : (s : State) → Represents g (framed atom_word) whole s
+        → (framed {S = S} {M = M} atom_word).within e.lists u.kept
+    extent_within s r = (newest (framed {S = S} {M = M} atom_word) choice newest_pushed r.engine.choices).within
+
+    pub gives_left : (s : State) → Represents g (framed atom_word) whole s
+        → (ks : List (held.Clause (EngineClause S W M))) × GivesKeyed e.db later ks
+    gives_left s r =
+        let n = newest (framed {S = S} {M = M} atom_word) choice newest_pushed r.engine.choices in
+        (n.here.has.are.behind, n.here.has.are.gives)
+
+    -- the engine goes back to it
+    module _ (doing : e.now ≡ now.Failing) (store : S) (lists : Framed S W M)
+        (present : (p : Present W) → g.stands e.store u.mark p → g.present store ≡ p)
+        (stands : (p : Present W) → g.stands e.store u.mark p → g.stands store u.mark p)
+        (marks : (m : M) (p : Present W) → g.older m u.mark → g.stands e.store m p → g.stands store m p)
+        (texts : KeepsTexts (g.names e.store) (g.names store))
+        (brings : BringsBack (framed {S = S} {M = M} atom_word) u.kept e.lists lists)
+        (extent : extent_of lists ≡ u.kept) where
+      abbrev back : Engine S W M
+      back = record whole { store = store; lists = lists }
+
+      went : (s : State) (r : Represents g (framed atom_word) whole s)
+          → GoesBack g (framed atom_word) whole store lists choice r.own
+      went s r =
+          goes_back g (framed atom_word) whole store lists choice r.own r.engine newest_pushed some_pushed present stands
+          marks texts brings extent (as_much u.kept)
+
+      -- so many choices are below it
+      below_it : (s : State) (r : Represents g (framed atom_word) whole s)
+          → length e.choices.items ≡ length (went s r).below
+      below_it s r =
+          let many = many_pushed in
+          let all = choices_length (framed atom_word) r.engine.choices in
+          let stack = ap length (went s r).is in
+          omega (arith, many, all, stack)
+
+      back_stays : (s : State) (r : Represents g (framed atom_word) whole s) (new : Engine S W M)
+          → new.limit ≡ e.limit → new.vocabulary ≡ e.vocabulary → new.base ≡ e.base
+          → KeepsTexts (g.names store) (g.names new.store)
+          → ((m : M) (p : Present W) → g.older m u.mark → g.stands store m p → g.stands new.store m p)
+          → length new.choices.items ≤ length choices.items → Stays g whole new
+      back_stays s r new limit vocabulary base names older fewer =
+          let n = newest (framed {S = S} {M = M} atom_word) choice newest_pushed r.engine.choices in
+          record {
+            limit = limit;
+            vocabulary = vocabulary;
+            names_kept = λ place text there. names place text (texts place text there);
+            base = λ p stood.
+                subst (λ (m : M). g.stands new.store m p) (sym base)
+                (older e.base p n.here.newer (marks e.base p n.here.newer stood));
+            within = λ within. omega (arith, within, fewer, limit);
+          }
+
+      abbrev Gives : Option ℕ → KeyedView → Type 0
+      Gives next rests = (names : List (List ℕ)) (ks : List (held.Clause (EngineClause S W M)))
+          (cs : List databases.Clause) → GivesKeyed e.db later ks
+          → AreClauses (own_of (framed {S = S} {M = M} atom_word)) names ks cs → remaining_keyed later ≤ most_left
+          → NextLeft (AreLeft (own_of (framed {S = S} {M = M} atom_word)) names e.db) next rests cs
+
+      -- a clause is left behind the next one
+      pub back_next : (next : ℕ) (rests : KeyedView) → Gives (Some next) rests
+          → remaining_keyed rests < remaining_keyed later → (others : Choices W M)
+          → HasPushed e (record u { clause = next }) rests rest others → (s : State)
+          → Represents g (framed atom_word) whole s
+          → IsBack g atom_word whole (with_choices back others) attempt rest (length e.choices.items)
+      back_next next rests gives fewer others again s r =
+          let l = framed {S = S} {M = M} atom_word in
+          let made : others.items ≡ take (length choices.items - 1) choices.items
+          ++ with_left choice (left.Clauses (next_of attempt next rests)) ∷ [] =
+          again ∙ ap (λ (xs : List _). xs ++ with_left choice (left.Clauses (next_of attempt next rests)) ∷ [])
+          (sym front_pushed) in
+          record {
+            failing = doing;
+            again = λ t q.
+                (let w = went t q in
+                let has = has g l back choice attempt q.own w.alternative w.below w.went refl in
+                record {
+                  alternative = w.alternative;
+                  below = w.below;
+                  stack = w.is;
+                  retries =
+                      retries_next g l back choice attempt q.own w.alternative w.below w.went refl next rests others
+                      (λ k within. within)
+                      (gives (g.names store) has.are.behind has.are.others has.are.gives has.are.are has.are.few) made;
+                  height = below_it t q;
+                });
+            steps = refl;
+            less =
+                (let w = went s r in
+                let one = fewer_next (cost_at lists) e.choices.items choice attempt refl next rests fewer in
+                let new = ap (λ (xs : List _). choices_cost (cost_at lists) xs) again in
+                let old = ap (λ (xs : List _). choices_cost (cost_at lists) xs) pushed in
+                let costs = w.costs in
+                omega (arith, one, new, old, costs));
+            stays =
+                (let many = ap length again in
+                let one = length_last e.choices.items (choice_of (record u { clause = next }) rests rest) in
+                let all = many_pushed in
+                back_stays s r (with_choices back others) refl refl refl (λ place text there. there)
+                (λ m p older stood. stood) (omega (arith, many, one, all)));
+          }
+
+      -- none is, and the mark was forgotten
+      pub back_last : (rests : KeyedView) → Gives None rests → (forgotten : S)
+          → g.present forgotten ≡ g.present store
+          → ((m : M) (p : Present W) → g.older m u.mark → g.stands store m p → g.stands forgotten m p)
+          → KeepsTexts (g.names store) (g.names forgotten) → (s : State) → Represents g (framed atom_word) whole s
+          → IsBack g atom_word whole (record e { store = forgotten; lists = lists }) attempt rest
+          (length e.choices.items)
+      back_last rests gives forgotten same older names s r =
+          let l = framed {S = S} {M = M} atom_word in
+          record {
+            failing = doing;
+            again = λ t q.
+                (let w = went t q in
+                let has = has g l back choice attempt q.own w.alternative w.below w.went refl in
+                record {
+                  alternative = w.alternative;
+                  below = w.below;
+                  stack = w.is;
+                  retries =
+                      retries_last g l back choice attempt q.own w.alternative w.below w.went refl forgotten e.choices
+                      (gives (g.names store) has.are.behind has.are.others has.are.gives has.are.are has.are.few) same
+                      older names (sym front_pushed);
+                  height = below_it t q;
+                });
+            steps = refl;
+            less =
+                (let w = went s r in
+                let one = fewer_choices (cost_at lists) e.choices.items choice attempt refl in
+                let old = ap (λ (xs : List _). choices_cost (cost_at lists) xs) pushed in
+                let costs = w.costs in
+                omega (arith, one, old, costs));
+            stays =
+                (let all = many_pushed in
+                back_stays s r (record e { store = forgotten; lists = lists }) refl refl refl names older
+                (omega (arith, all)));
+          }
+
+  -- ---- room was made for the choice
+
+  module _ (e : Engine S W M) (choices : Choices W M) (items : choices.items ≡ e.choices.items) where
+    pub reserved_calls : (clause : ℕ) (later : KeyedView) (name : ℕ) (rest : Option Rest) (s : State) (goal : Tree)
+        (c : databases.Clause) (cs : List databases.Clause) (behind : List Member)
+        → CallsPut g atom_word e clause later name rest s goal c cs behind
+        → CallsPut g atom_word (with_choices e choices) clause later name rest s goal c cs behind
+    reserved_calls clause later name rest s goal c cs behind t =
+        let a = t.ahead in
+        record {
+          ahead = record {
+            world = a.world;
+            steps = a.steps;
+            base = a.base;
+            choices = rw items a.choices;
+            room = a.room;
+            fits = a.fits;
+            goes = a.goes;
+            chain = a.chain;
+          };
+          space = t.space;
+          put = t.put;
+          clauses = t.clauses;
+          enter = t.enter;
+        }
+
+    reserved_stays : (new : Engine S W M) → Stays g (with_choices e choices) new → Stays g e new
+    reserved_stays new stays = record {
+      limit = stays.limit;
+      vocabulary = stays.vocabulary;
+      names_kept = stays.names_kept;
+      base = stays.base;
+      within = λ within. stays.within (let many = ap length items in omega (arith, within, many));
+    }
+
+    pub reserved_for : (first : Engine S W M) (clause : ℕ) (later : KeyedView) (name : ℕ) (rest : Option Rest)
+        → CallsFor g atom_word first e clause later name rest
+        → CallsFor g atom_word first (with_choices e choices) clause later name rest
+    reserved_for first clause later name rest goes = record {
+      went = λ new h. goes.went new
+          (record {
+            tried = λ s goal c cs behind t.
+                h.tried s goal c cs behind (reserved_calls clause later name rest s goal c cs behind t);
+            awake = h.awake;
+            steps = h.steps;
+            costs =
+                (let same = ap (λ (xs : List _). choices_cost (cost_at e.lists) xs) items in
+                let costs = h.costs in
+                omega (arith, costs, same));
+            stays = reserved_stays new h.stays;
+          });
+      stopped = λ new reason h. goes.stopped new reason
+          (record {
+            kept = λ s goal c cs behind t.
+                h.kept s goal c cs behind (reserved_calls clause later name rest s goal c cs behind t);
+            heap = h.heap;
+            stays = reserved_stays new h.stays;
+          });
     }

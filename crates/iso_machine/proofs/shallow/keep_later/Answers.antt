@@ -3,12 +3,13 @@ use Rattle.iso_program.specs.Leaving.{AreLeft, NextLeft}
 use Rattle.iso_program.proofs.LeavingLemmas.{left_behind}
 use Rattle.iso_program.proofs.ResultLemmas.{behind_error}
 use Rattle.iso_search_core.specs.Own.{own_of}
-use Rattle.iso_search.proofs.WorldLemmas.{left_on, same_texts}
+use Rattle.iso_search.proofs.AheadLemmas.{remains_ahead}
+use Rattle.iso_search.proofs.WorldLemmas.{same_texts}
 use Rattle.iso_machine.specs.Engines.{framed}
 use Rattle.iso_machine.specs.declared.framed.Framed.{Framed}
 use Rattle.iso_machine.specs.declared.shallow.Unpushed.{Unpushed}
-use Rattle.iso_machine.proofs.Moves.Kept.{again_refused, kept_behind, kept_stays}
-use Rattle.iso_machine.proofs.Moves.Shallow.{later_calls, later_costs, still_calls}
+use Rattle.iso_machine.proofs.Moves.Kept.{kept_ahead, kept_behind, kept_stays}
+use Rattle.iso_machine.proofs.Moves.Shallow.{later_calls, later_costs}
 use Rattle.iso_machine.proofs.shallow.keep_later.Goals as goal
 
 pub next_left-requires : goal.next_left-requires
@@ -30,12 +31,16 @@ unreachable-requires g c =
     omega (arith, some, many)
 
 pub returns-in_err-call-clause-refused : goal.returns-in_err-call-clause-refused
-returns-in_err-call-clause-refused g c = λ first s call k ks gs mark t.
+returns-in_err-call-clause-refused g c = λ first s call k ks gs t.
+    let l = framed {S = g.row.S.Denot} {M = g.row.S-Mark.Denot} g.S.Cells.atom_word in
+    let e = c.args.search.now in
     let on = c.keep_arguments.ensures in
     behind_error c.from_residual.result
-    (again_refused g.S.Store g.S.Cells.atom_word c.args.search.now c.keep_arguments.new.lists
+    (remains_ahead g.S.Store l (record e { lists = c.keep_arguments.new.lists }) (record s { list = gs })
+    c.args.put.now.behind
+    (kept_ahead g.S.Store g.S.Cells.atom_word e c.keep_arguments.new.lists
     (ap (λ (h : Framed _ _ _). h.nodes) on.same) (ap (λ (h : Framed _ _ _). h.frames) on.same)
-    on.words c.args.put.now.behind s call k gs mark t.ahead)
+    on.words c.args.put.now.behind (record s { list = gs }) t.ahead))
 
 pub returns-in_err-call-clause-behind : goal.returns-in_err-call-clause-behind
 returns-in_err-call-clause-behind g c =
@@ -66,18 +71,6 @@ returns-clause-stays g c = record {
   base = λ p stood. c.mark-mark.ensures.marks c.args.search.now.base p stood;
   within = λ within. within;
 }
-
-pub returns-clause-calls : goal.returns-clause-calls
-returns-clause-calls g c = λ first s call k ks gs t.
-    let e = c.args.search.now in
-    let l = framed {S = g.row.S.Denot} {M = g.row.S-Mark.Denot} g.S.Cells.atom_word in
-    let on = c.keep_arguments.ensures in
-    let marked = c.mark-mark.ensures in
-    still_calls g.S.Store g.S.Cells.atom_word e c.keep_arguments.new.lists
-    (ap (λ (h : Framed _ _ _). h.nodes) on.same) (ap (λ (h : Framed _ _ _). h.frames) on.same)
-    (ap (λ (h : Framed _ _ _). h.arguments) on.same) on.words c.mark-mark.new.self marked.present marked.marks
-    (same_texts marked.names) first c.args.later.now c.args.put.now.name c.args.put.now.behind s call k ks gs t
-    (left_on l (same_texts marked.names) {d = e.db} first c.args.later.now _ t.clauses)
 
 pub returns-clause-keeps : goal.returns-clause-keeps
 returns-clause-keeps g c =
@@ -114,5 +107,4 @@ returns-clause-keeps g c =
           later_costs g.S.Store g.S.Cells.atom_word e held nodes frames arguments on.words c.mark-mark.new.self
           marked.present marked.marks (same_texts marked.names) u c.next_left.new.later c.args.put.now.behind
           c.kept-kept.ensures marked.stands marked.older choices pushed (omega (arith, few, less)));
-      mark = subst (λ p. g.S.Store.stands c.mark-mark.new.self c.mark-mark.result p) (sym marked.present) marked.stands;
     }
