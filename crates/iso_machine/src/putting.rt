@@ -98,7 +98,11 @@ pub(crate) fn go<S: Cells + Drop>(
         return Ok(Gone::Went);
     }
     let mark = search.choices.len();
-    enter_clause(search, clause, put, mark, last)
+    match enter_clause(search, clause, put, mark, last)? {
+        Gone::Went => Ok(Gone::Went),
+        Gone::Full => unreachable!(),
+        Gone::Last => Ok(Gone::Last),
+    }
 }
 
 /// The word of the goal of this name with these arguments. The errors: the store is full, or memory was refused.

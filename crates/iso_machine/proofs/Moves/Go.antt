@@ -1,5 +1,5 @@
 -- A goal whose arguments were put is called: the step is taken, and frames and words are given up.
-use Rattle.std.proofs.Common.{◌≡◌, ◌≢◌, ◌≤◌, ◌<◌, ◌+◌, ◌-◌, ℕ, suc, List, [], ◌∷◌, length, Option, refl, ap, ap₂, sym, ◌∙◌, subst, arith}
+use Rattle.std.proofs.Common.{◌≡◌, ◌≢◌, ◌≤◌, ◌<◌, ◌+◌, ◌-◌, ℕ, suc, List, ◌∷◌, length, Option, refl, ap, ap₂, sym, ◌∙◌, subst, arith}
 use Rattle.std.specs.List.{All}
 use Rattle.iso_atoms.specs.Texts.{text_at}
 use Rattle.iso_model.specs.Terms.Trees.{Tree, Name}
@@ -7,9 +7,7 @@ use Rattle.iso_model.specs.Search.Bodies.{Run}
 use Rattle.iso_model.specs.Search.Engines.{IsAwake}
 use Rattle.iso_model.specs.Search.Runs.{here}
 use Rattle.iso_model.specs.Search.RunLaws.Spans.{ComesBeyond}
-use Rattle.iso_model.specs.Search.Databases as databases
-use Rattle.iso_model.specs.Search.Walker.{State, World, Alternative, Member, query_size, tried, tried_clause, with_others}
-use Rattle.iso_model.proofs.Search.CallLemmas.{clause_keeps}
+use Rattle.iso_model.specs.Search.Walker.{State, tried}
 use Rattle.iso_model.specs.declared.limit.Limit.TheVariants as limit
 use Rattle.iso_model.specs.declared.pauses.Pause.TheVariants as pause
 use Rattle.iso_db.specs.declared.db.Db.{Db}
@@ -21,36 +19,31 @@ use Rattle.iso_writing.specs.Writing.{Adds}
 use Rattle.iso_search_core.specs.Bodies.{body_cost, left_cost, most, whole_cost}
 use Rattle.iso_search_core.specs.Own.{own_of}
 use Rattle.iso_search_core.specs.declared.nows.Now.TheVariants as now
-use Rattle.iso_search_core.proofs.FittingLemmas.{fits_fewer, fits_there}
+use Rattle.iso_search_core.proofs.FittingLemmas.{fits_fewer}
 use Rattle.iso_search_core.proofs.WordLemmas.{words_hold}
 use Rattle.iso_frames.specs.declared.frames.Rest.{Rest}
 use Rattle.iso_environments.specs.Goals.{goal_of}
 use Rattle.iso_search.specs.Called.{CallsAt}
-use Rattle.iso_search.specs.EngineStates.{IsAhead, Keeps, Moves, Remains, Represents, Refused, StandsAs, WasRefused, cost, kept_cost, leaves_of, phase_of, weight}
+use Rattle.iso_search.specs.EngineStates.{IsAhead, Moves, Represents, Refused, StandsAs, WasRefused, cost, kept_cost, leaves_of, phase_of, weight}
 use Rattle.iso_search.specs.declared.search.Move.TheVariants as move
 use Rattle.iso_search.specs.Stays.{Stays}
 use Rattle.iso_search.proofs.AheadLemmas.{remains_ahead}
 use Rattle.iso_search.proofs.LimitLemmas.{stays_on}
-use Rattle.iso_search.proofs.CountedLemmas.{clause_counts}
-use Rattle.iso_search.proofs.Moves.Search.{refuses_here, stops_here}
+use Rattle.iso_search.proofs.Moves.Search.{refuses_here}
 use Rattle.iso_search.proofs.RunLemmas.{one_less}
 use Rattle.iso_search.proofs.WeightLemmas.{falls_called}
 use Rattle.iso_search.proofs.WorldLemmas.{same_texts}
 use Rattle.iso_search.proofs.Moves.Next.{value_called, value_refused}
-use Rattle.iso_search.proofs.Moves.Value.{IsAtValue, value_tries}
+use Rattle.iso_search.proofs.Moves.Value.{IsAtValue}
 use Rattle.iso_machine.specs.declared.framed.Framed.{Framed}
 use Rattle.iso_machine.specs.Engines.{Engine, EngineClause, IsBeyond, framed}
+use Rattle.iso_machine.specs.Unpushed.{CallsFor}
+use Rattle.iso_machine.proofs.CameLemmas.{came_error}
 use Rattle.iso_machine.specs.GoalCalls.{AtCall, CallsPut, IsToCall, goal_put}
 use Rattle.iso_machine.specs.Lists.{IsPut, cost_at, extent_of, list_words, pending_at}
 use Rattle.iso_machine.proofs.AddedLemmas.{IsGrown, ahead_added, ahead_taken, store_grown}
 use Rattle.iso_machine.proofs.BeyondLemmas.{comes_beyond, goal_runs}
 use Rattle.iso_machine.proofs.GoalTerms.{words_mean}
-
--- the choice for later clauses counts nothing
-others_same : (call : Tree) (cs : List databases.Clause) (ms : List Member) (s : State)
-    → ((with_others call cs ms s).built ≡ s.built) × ((with_others call cs ms s).query ≡ s.query)
-others_same call [] ms s = (refl, refl)
-others_same call (c ∷ cs) ms s = (refl, refl)
 
 module _ {S W M : Type 0} (g : Ghosts S W M) (atom_word : ℕ → W) where
   -- ---- the step is taken
@@ -183,32 +176,6 @@ module _ {S W M : Type 0} (g : Ghosts S W M) (atom_word : ℕ → W) where
           value_refused g (framed atom_word) e at.own s (goal_put g atom_word e name) behind at.same value h.more clause
           later user new was
 
-      -- the clause was to be tried, and no choice was pushed
-      pub go_kept : (new : Engine S W M)
-          → Remains g (framed atom_word) new (tried_clause (goal_put g atom_word e name) user.first
-          (length taken.stack) (at.at).behind taken) → Refused g (framed atom_word) new s
-      go_kept new remains =
-          let call = goal_put g atom_word e name in
-          let ms = (at.at).behind in
-          let many = length taken.stack in
-          let others = with_others call user.others ms taken in
-          let kept = clause_keeps call user.first many ms taken in
-          let more = clause_keeps call user.first many ms others in
-          let one = clause_counts call user.first many ms taken in
-          let two = clause_counts call user.first many ms others in
-          let on = value_tries g (framed atom_word) e at.own s call behind at.same value h.more user.key
-          (user.first ∷ user.others) user.user user.clauses in
-          let same = others_same call user.others ms taken in
-          let query = ap query_size (kept.2 ∙ sym same.1 ∙ sym more.2) in
-          record {
-            stopped = stops_here g (framed atom_word) new at.own s at.same
-                (subst (λ (ks : List Alternative). Keeps g (framed atom_word) new taken.world ks) kept.0
-                (subst (λ (w : World). Keeps g (framed atom_word) new w
-                (tried_clause call user.first many ms taken).stack) kept.1 remains.0));
-            fits = fits_there g (g.present new.store) tries s on.0 on.1 on.2
-                (λ counts. (let all = remains.1 counts in let built = same.0 in omega (arith, all, one, two, built, query)));
-          }
-
       -- no frame and no choice may come
       pub go_full : (new : Engine S W M) → new ≡ mid → IsBeyond g atom_word mid behind
           → Moves g (framed atom_word) (move.Pauses pause.FramesFull) s (record new { now = now.Spent limit.Frames })
@@ -248,3 +215,27 @@ module _ {S W M : Type 0} (g : Ghosts S W M) (atom_word : ℕ → W) where
         < whole_cost n (cost (framed atom_word) old)) whole
         (subst (λ (n : ℕ). whole_cost n (cost (framed atom_word) new)
         < whole_cost (suc (e.steps - 1)) (cost (framed atom_word) old)) (sym (steps ∙ taken)) falls)
+
+    -- what trying the clauses comes to, the call comes to
+    pub go_for : (mid : Engine S W M)
+        → ((t : State) → IsAhead g (framed atom_word) e t behind
+        → IsAhead g (framed atom_word) mid (record t { steps = e.steps - 1 }) behind)
+        → IsPut atom_word (g.present mid.store) mid.lists name (goal_put g atom_word e name)
+        → mid.steps ≡ e.steps - 1 → g.names mid.store ≡ g.names e.store → mid.db ≡ e.db
+        → kept_cost (framed atom_word) mid ≡ kept_cost (framed atom_word) e
+        → cost_at mid.lists behind ≡ cost_at e.lists behind → Stays g e mid
+        → CallsFor g atom_word old mid clause later name behind
+    go_for mid gives put steps names clauses costs place stays = record {
+      went = λ new by asked. record {
+        next = λ s r. go_went gives s r new
+            (by.tried _ _ _ _ _ (go_calls gives s r put steps names clauses)) by.awake;
+        stopped = λ s r. tt;
+        falls = go_falls mid new steps costs place by.steps by.costs;
+        full = λ none. absurd (cc);
+        stays = stays_on g h.put.stays (stays_on g stays by.stays);
+      };
+      stopped = λ new reason by.
+          came_error g atom_word reason
+          (λ s r. go_refused gives s r new (by.kept _ _ _ _ _ (go_calls gives s r put steps names clauses))) by.heap
+          (stays_on g h.put.stays (stays_on g stays by.stays));
+    }
