@@ -12,6 +12,7 @@ pub mod Last
 pub mod Level
 pub mod Shallow
 pub mod Split
+pub mod Thrown
 pub mod Try
 pub mod Unpushed
 pub mod Went

@@ -56,6 +56,11 @@ abbrev pub IfPushed : {S W M : Type 0} → Engine S W M → Unpushed M → Keyed
 IfPushed {W = W} {M = M} e u later rest Is =
     (choices : Choices W M) → HasPushed e u later rest choices → Is (with_choices e choices)
 
+-- these are the engine's choices, and one more
+abbrev pub HasOneMore : {S W M : Type 0} → Engine S W M → Choices W M → Type 0
+HasOneMore {W = W} {M = M} e choices =
+    (c : Choice W M Extent (Option Rest) KeptCall) × (choices.items ≡ e.choices.items ++ c ∷ [])
+
 module _ {S W M : Type 0} (g : Ghosts S W M) (atom_word : ℕ → W) where
   -- the engine, in some state, is about to try this clause
   abbrev pub IsToEnter : Engine S W M → ℕ → ℕ → Option Rest → Type 0

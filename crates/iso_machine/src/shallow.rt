@@ -10,6 +10,7 @@ ghost use Rattle.iso_db.specs.Keyed.{remaining_keyed};
 ghost use Rattle.iso_instructions.specs.declared.instructions.Instruction.TheVariants as instruction;
 ghost use Rattle.iso_frames.specs.Frames.{Levels};
 ghost use Rattle.iso_frames.specs.declared.frames.Next.TheVariants as next;
+ghost use Rattle.iso_environments.specs.Answering.{IsArithmeticThere};
 ghost use Rattle.iso_environments.specs.Leveled.{IsAtClause};
 ghost use Rattle.iso_search_core.specs.declared.nows.Now.TheVariants as now;
 ghost use Rattle.iso_search.specs.declared.calls.Next.TheVariants as calls;
@@ -23,6 +24,7 @@ ghost use Rattle.iso_machine.specs.Lists.{cost_at};
 ghost use Rattle.iso_machine.specs.Unpushed.{CallsFor, Choices, HasPushed, IfPushed, IsBack, IsOpen, KeepsLater};
 ghost use Rattle.iso_machine.specs.Unpushed.{with_choices};
 
+use super::arithmetic::compute;
 use super::calling::{Gone, enter_clause, keep_arguments};
 use super::coming::go_on;
 use super::control::height_at;
@@ -93,6 +95,7 @@ fn keep_later<S: Cells + Drop>(
 
 
 /// The place of the instruction that comes first, where it cuts back to this height as its clause was called.
+#[inline(always)]
 fn cut_first<S: Cells + Drop>(search: &Search<S, Framed<S>>, count: usize) -> Option<Rest>
     requires { (choices : Choices S.Word S.Mark) × (s : State)
         × IsEngine S.Store (framed S.atom_word) (with_choices search.now choices) s }
@@ -206,18 +209,35 @@ fn go_to_next<S: Cells + Drop>(
     }
 }
 
+/// The place of the instruction that comes first, where it does arithmetic and a step is left.
+#[inline(always)]
+fn sum_first<S: Cells + Drop>(search: &Search<S, Framed<S>>) -> Option<Rest>
+    requires { (choices : Choices S.Word S.Mark) × (s : State)
+        × IsEngine S.Store (framed S.atom_word) (with_choices search.now choices) s }
+    ensures now { IfSome result (λ rest. search.entry.now.now ≡ now.Running (next.Code rest)) }
+    ensures there { IfSome result (λ rest. IsArithmeticThere search.entry.now.lists.frames.items rest) }
+    ensures more { IfSome result (λ rest. search.entry.now.steps ≢ 0) }
+{
+    let rest = code_first(&search.now)?;
+    match act_there(search.lists.frames.as_slice(), rest) {
+        Act::Computes if search.steps != 0 => Some(rest),
+        _ => None,
+    }
+}
+
 /// What trying the clauses behind the first one came to.
 #[derive(Clone, Copy)]
 enum Tried {
     /// A clause was entered, and others are left.
     Entered,
-    /// Others are left, and trying one was refused.
+    /// Others are left, and what was tried was refused.
     Refused(StoreFault),
     /// The last one was tried.
     Last(Result<(), StoreFault>),
 }
 
-/// Tries the clauses that are left, one after another, as long as the engine fails.
+/// Tries the clauses that are left, one after another, as long as the engine fails. Arithmetic that comes
+/// first is done, where a step is left.
 #[inline(always)]
 fn try_others<S: Cells + Drop>(
     search: &mut Search<S, Framed<S>>,
@@ -244,6 +264,12 @@ fn try_others<S: Cells + Drop>(
 {
     let below = search.choices.len();
     loop {
+        if let Some(rest) = sum_first(search) {
+            match compute(search, rest) {
+                Ok(()) => continue,
+                Err(fault) => return Tried::Refused(fault),
+            }
+        }
         let Now::Failing = search.now else {
             return Tried::Entered;
         };

@@ -24,10 +24,9 @@ use Rattle.iso_machine.specs.Unpushed.{Choices, with_choices}
 use Rattle.iso_machine.proofs.Moves.Kept.{put_last}
 
 -- what stays as it was doesn't hang on the choices
-pub stays_over : {S W M : Type 0} (g : Ghosts S W M) {old new : Engine S W M} (choices : Choices W M)
-    → new ≡ record old { store = new.store; lists = new.lists; now = new.now } → Stays g old new
+pub stays_over : {S W M : Type 0} (g : Ghosts S W M) {old new : Engine S W M} (choices : Choices W M) → Stays g old new
     → Stays g (with_choices old choices) (with_choices new choices)
-stays_over {S = S} {W = W} {M = M} g {old = old} {new = new} choices same stays = record {
+stays_over g choices stays = record {
   limit = stays.limit;
   vocabulary = stays.vocabulary;
   names_kept = stays.names_kept;

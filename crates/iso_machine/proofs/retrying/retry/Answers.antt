@@ -127,7 +127,7 @@ returns-clause-came g c = λ choices later old s0 r0 b asked. record {
       (kept_stays g.S.Store g.S.Cells.atom_word (with_choices c.args.search.now choices) c.take_arguments.new.lists
       (ap (λ (h : Framed _ _ _). h.nodes) taken) (ap (λ (h : Framed _ _ _). h.frames) taken)
       (stacked_same (ap (λ (h : Framed _ _ _). h.words) taken)))
-      (stays_over g.S.Store choices c.in_ok-enter_clause.ensures.same c.in_ok-enter_clause.ensures.stays));
+      (stays_over g.S.Store choices c.in_ok-enter_clause.ensures.stays));
 }
 
 pub returns-in_err-enter_clause-clause-came : goal.returns-in_err-enter_clause-clause-came
@@ -161,7 +161,7 @@ returns-in_err-enter_clause-clause-came g c = λ choices later old s0 r0 b.
     (kept_stays g.S.Store g.S.Cells.atom_word (with_choices c.args.search.now choices) c.take_arguments.new.lists
     (ap (λ (h : Framed _ _ _). h.nodes) taken) (ap (λ (h : Framed _ _ _). h.frames) taken)
     (stacked_same (ap (λ (h : Framed _ _ _). h.words) taken)))
-    (stays_over g.S.Store choices c.in_err-enter_clause.ensures.same c.in_err-enter_clause.ensures.stays))))
+    (stays_over g.S.Store choices c.in_err-enter_clause.ensures.stays))))
 
 pub returns-clause-same : goal.returns-clause-same
 returns-clause-same g c =
