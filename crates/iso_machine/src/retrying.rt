@@ -40,11 +40,11 @@ pub(crate) fn retry<S: Cells + Drop>(
     ensures same { search.new.choices ≡ search.old.choices }
     ensures steps { IfOk result (λ done. search.new.steps ≡ search.old.steps) }
 {
-    take_arguments(&mut search.lists, call)?;
     let put = Put {
         name: call.name,
         behind,
     };
+    take_arguments(&mut search.lists, call)?;
     match enter_clause(search, clause, &put, below, false)? {
         Gone::Went => Ok(()),
         Gone::Full => unreachable!(),

@@ -1,5 +1,5 @@
 //! Calls with clauses left behind the first: where that cuts at once, no choice is pushed for them (7.8.4).
-ghost use Rattle.std.specs.Prelude.{◌≡◌, ◌<◌, ◌≤◌, ◌+◌, ◌^◌, ℕ, List, Err, IfOk, IfSome, None, Ok, OnErr, Some};
+ghost use Rattle.std.specs.Prelude.{◌≡◌, ◌≢◌, ◌<◌, ◌≤◌, ◌+◌, ◌^◌, ℕ, List, Err, IfOk, IfSome, None, Ok, OnErr, Some};
 ghost use Rattle.std.specs.Prelude.{Option, Result, length, vec_capacity, vec_len};
 ghost use Rattle.iso_model.specs.Terms.Trees.{Tree};
 ghost use Rattle.iso_model.specs.Search.Databases as databases;
@@ -260,7 +260,9 @@ fn try_others<S: Cells + Drop>(
         → IfPushed search.old kept.old later.old put.now.behind (CameTo S.Store S.atom_word first (Ok calls.Went))
         → result ≡ Tried.Last done → CameTo S.Store S.atom_word first (went_on done) search.new }
     ensures same { search.new.choices ≡ search.old.choices }
-    ensures steps { search.new.steps ≤ search.old.steps }
+    ensures fewer { result ≡ Tried.Entered → search.new.steps ≤ search.old.steps }
+    ensures fewest { (done : Result _ StoreFault) → result ≡ Tried.Last done
+        → IfOk done (λ d. search.new.steps ≤ search.old.steps) }
 {
     let below = search.choices.len();
     loop {
@@ -300,7 +302,7 @@ fn settle<S: Cells + Drop>(
     ensures came { (first : Engine S S.Word S.Mark)
         → IfPushed search.old kept later.old put.now.behind (CameTo S.Store S.atom_word first (Ok calls.Went))
         → CameTo S.Store S.atom_word first (went_on result) search.new }
-    ensures steps { search.new.steps ≤ search.old.steps }
+    ensures steps { IfOk result (λ done. search.new.steps ≤ search.old.steps) }
 {
     let mut kept = kept;
     match try_others(search, later, &mut kept, put) {
@@ -336,7 +338,7 @@ pub(crate) fn call_with_later<S: Cells + Drop>(
     ensures came { (first : Engine S S.Word S.Mark)
         → CallsFor S.Store S.atom_word first search.old clause later.old put.now.name put.now.behind
         → CameTo S.Store S.atom_word first (went_on result) search.new }
-    ensures steps { search.new.steps ≤ search.old.steps }
+    ensures steps { IfOk result (λ done. search.new.steps ≤ search.old.steps) }
 {
     search.choices.reserve(1)?;
     let kept = keep_later(search, later, put)?;

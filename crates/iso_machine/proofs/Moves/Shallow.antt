@@ -37,7 +37,6 @@ use Rattle.iso_search_core.proofs.BodyCosts.{view_cost}
 use Rattle.iso_search_core.proofs.CostLemmas.{choices_last}
 use Rattle.iso_search_core.proofs.StandingLemmas.{choices_length, newest, front_is, keeps_none, last_is, length_last, lower}
 use Rattle.iso_frames.specs.Costs.{first_cost}
-use Rattle.iso_search.specs.declared.calls.Next as called
 use Rattle.iso_search.specs.declared.calls.Next.TheVariants as calls
 use Rattle.iso_frames.specs.Frames.{Levels}
 use Rattle.iso_frames.specs.declared.frames.Rest.{Rest}
@@ -66,7 +65,7 @@ use Rattle.iso_machine.specs.declared.calling.Gone.TheVariants as gone
 use Rattle.iso_machine.specs.Engines.{Engine, EngineClause, framed}
 use Rattle.iso_machine.specs.GoalCalls.{CallsPut}
 use Rattle.iso_machine.specs.Instructions.{CutsAs, IsInstructionThere}
-use Rattle.iso_machine.specs.Came.{CameTo}
+use Rattle.iso_machine.specs.Came.{CameTo, went_on}
 use Rattle.iso_machine.specs.Lists.{IsFor, IsList, as_much, cost_at, extent_of, pending_at}
 use Rattle.iso_machine.specs.Unpushed.{CallsFor, Choices, Entering, HasPushed, HasTried, IfPushed, IsBack, IsOpen, KeepsLater, WasStopped, choice_of, with_choices}
 use Rattle.iso_machine.proofs.CameLemmas.{came_on}
@@ -544,14 +543,17 @@ module _ {S W M : Type 0} (g : Ghosts S W M) (atom_word : ℕ → W) where
   -- ---- the choice is not pushed yet, and moves go on
 
   module _ (start e : Engine S W M) (before u : Unpushed M) (began later : KeyedView) (rest : Option Rest)
-      (open : IsOpen g atom_word start e before u began later rest) where
+      (opened : IsOpen g atom_word start e before u began later rest) where
     -- what comes behind it comes behind the beginning
-    pub open_end : (choices : Choices W M) → HasPushed e u later rest choices → (result : Result called.Next StoreFault)
-        → (new : Engine S W M) → CameTo g atom_word (with_choices e choices) result new → (first : Engine S W M)
+    pub open_end : {T : Type 0} (choices : Choices W M) → HasPushed e u later rest choices
+        → (done : Result T StoreFault) → (new : Engine S W M)
+        → CameTo g atom_word (with_choices e choices) (went_on done) new → (first : Engine S W M)
         → IfPushed start before began rest (CameTo g atom_word first (Ok calls.Went))
-        → CameTo g atom_word first result new
-    open_end choices pushed result new came first begin asked =
-        came_on g atom_word result (open.behind first begin choices pushed) (came asked)
+        → CameTo g atom_word first (went_on done) new
+    open_end choices pushed (Ok t) new came first begin asked =
+        came_on g atom_word (Ok calls.Went) (opened.behind first begin choices pushed) (came asked)
+    open_end choices pushed (Err reason) new came first begin asked =
+        came_on g atom_word (Err reason) (opened.behind first begin choices pushed) (came asked)
 
     module _ (first : Engine S W M) (s : State) (r : Represents g (framed atom_word) first s)
         (begin : IfPushed start before began rest (CameTo g atom_word first (Ok calls.Went))) where
@@ -559,22 +561,22 @@ module _ {S W M : Type 0} (g : Ghosts S W M) (atom_word : ℕ → W) where
       pub open_stands : (choices : Choices W M) → HasPushed e u later rest choices
           → (t : State) × Represents g (framed atom_word) (with_choices e choices) t
       open_stands choices pushed =
-          let on = (open.behind first begin choices pushed None).next s r in
+          let on = (opened.behind first begin choices pushed None).next s r in
           (on.0, on.2)
 
       -- a move for which it is no matter which choices stand
       pub open_step : (new : Engine S W M) → new.choices ≡ e.choices → new.steps ≤ e.steps
-          → ((choices : Choices W M) (t : State) → Represents g (framed atom_word) (with_choices e choices) t
-          → CameTo g atom_word (with_choices e choices) (Ok calls.Went) (with_choices new choices))
+          → ((choices : Choices W M) (t : State) → HasPushed e u later rest choices
+          → Represents g (framed atom_word) (with_choices e choices) t → CameTo g atom_word (with_choices e choices) (Ok calls.Went) (with_choices new choices))
           → IsOpen g atom_word start new before u began later rest
       open_step new same fewer moves = record {
-        same = same ∙ open.same;
-        steps = (let few = open.steps in omega (arith, few, fewer));
+        same = same ∙ opened.same;
+        steps = (let few = opened.steps in omega (arith, few, fewer));
         behind = λ from begun choices pushed.
             (let pushed_old : HasPushed e u later rest choices =
             pushed ∙ ap (λ (v : Choices W M). v.items ++ choice_of u later rest ∷ []) same in
             let t = open_stands choices pushed_old in
-            open_end choices pushed_old (Ok calls.Went) (with_choices new choices) (moves choices t.0 t.1) from begun);
+            open_end {T = ℕ} choices pushed_old (Ok 0) (with_choices new choices) (moves choices t.0 pushed_old t.1) from begun);
       }
 
       -- a move that changes the choice which isn't pushed
@@ -584,8 +586,8 @@ module _ {S W M : Type 0} (g : Ghosts S W M) (atom_word : ℕ → W) where
           → CameTo g atom_word (with_choices e choices) (Ok calls.Went) (with_choices new others))
           → IsOpen g atom_word start new before v began rests rest
       open_on choices pushed new v rests same fewer moves = record {
-        same = same ∙ open.same;
-        steps = (let few = open.steps in omega (arith, few, fewer));
+        same = same ∙ opened.same;
+        steps = (let few = opened.steps in omega (arith, few, fewer));
         behind = λ from begun others again.
-            open_end choices pushed (Ok calls.Went) (with_choices new others) (moves others again) from begun;
+            open_end {T = ℕ} choices pushed (Ok 0) (with_choices new others) (moves others again) from begun;
       }

@@ -31,7 +31,7 @@ compute-requires-clause-more g c = λ none. absurd (omega (arith, c.if-search-ne
 pub returns-in_err-compute-in-Computes : goal.returns-in_err-compute-in-Computes
 returns-in_err-compute-in-Computes g c =
     call_not g.S.Store g.S.Cells.atom_word c.from_residual.result _ c.from_residual.ensures.0 c.from_residual.ensures.1
-    (c.in_err-compute-in-Computes.ensures.came c.requires.stands.0 c.requires.stands.1 _)
+    (c.in_err-compute-in-Computes.ensures.came c.requires.stands.0 c.requires.stands.1) _
 
 pub returns-in_ok-compute-in-Computes : goal.returns-in_ok-compute-in-Computes
 returns-in_ok-compute-in-Computes g c =

@@ -103,30 +103,30 @@ pub go_on-requires : goal.go_on-requires
 go_on-requires g c =
     let a = g.S.Cells.atom_word in
     let e = c.args.search.now in
-    let k = c.requires.3 in
-    let calls = c.requires.7 in
+    let k = c.requires.1.2 in
+    let calls = c.requires.1.6 in
     let is = left_clause (g.S.Store.names e.store) e.db calls.clauses c.clause-entered.result.now
     c.clause-entered.ensures in
-    let comes = c.in_ok-enter.ensures.comes k c.requires.2 c.requires.5 is calls.put calls.ahead.chain in
+    let comes = c.in_ok-enter.ensures.comes k c.requires.1.1 c.requires.1.4 is calls.put calls.ahead.chain in
     let b = subst (λ (x : Entered). Comes a (g.S.Store.present e.store) (g.S.Store.present c.enter.new.store)
-    c.requires.2 k c.args.mark c.requires.5 c.enter.new.lists x) c.in-At.is comes in (
+    c.requires.1.1 k c.args.mark c.requires.1.4 c.enter.new.lists x) c.in-At.is comes in (
       g.S.Store.present c.enter.new.store,
-      clause_members (g.S.Store.present c.enter.new.store) b.words c.args.mark k ++ c.requires.5,
+      clause_members (g.S.Store.present c.enter.new.store) b.words c.args.mark k ++ c.requires.1.4,
       b.list,
     )
 
 pub enter-requires : goal.enter-requires
 enter-requires g c =
-    let calls = c.requires.7 in
+    let calls = c.requires.1.6 in
     let e = c.args.search.now in
     let is = left_clause (g.S.Store.names e.store) e.db calls.clauses c.clause-entered.result.now
     c.clause-entered.ensures in
     let next = calls.ahead.goes.next in
     let few = is.few in
     let space = calls.space in (
-      c.requires.3,
-      c.requires.2,
-      c.requires.5,
+      c.requires.1.2,
+      c.requires.1.1,
+      c.requires.1.4,
       is,
       calls.put,
       calls.ahead.chain,

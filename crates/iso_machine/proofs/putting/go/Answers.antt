@@ -102,17 +102,10 @@ returns-then-has_left-clause-came g c = λ old h.
 
 pub enter_clause-requires : goal.enter_clause-requires
 enter_clause-requires g c =
-    let ready = c.make_ready.ensures in (
-      c.make_ready.new.search.choices,
-      _,
-      _,
-      _,
-      _,
-      _,
-      c.args.later.now,
-      go_calls g.S.Store g.S.Cells.atom_word c.requires.3 ready.ahead c.requires.1 c.requires.2 ready.put ready.steps
-          ready.names ready.clauses,
-    )
+    let ready = c.make_ready.ensures in
+    let t = go_calls g.S.Store g.S.Cells.atom_word c.requires.3 ready.ahead c.requires.1 c.requires.2 ready.put
+    ready.steps ready.names ready.clauses in
+    (c.make_ready.new.search.choices, (_, _, _, _, _, c.args.later.now, t))
 
 pub returns-in_err-enter_clause-clause-came : goal.returns-in_err-enter_clause-clause-came
 returns-in_err-enter_clause-clause-came g c = λ old h.

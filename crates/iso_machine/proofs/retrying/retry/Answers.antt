@@ -60,15 +60,17 @@ enter_clause-requires g c =
     let frames = ap (λ (h : Framed _ _ _). h.frames) taken in
     let words = stacked_same (ap (λ (h : Framed _ _ _). h.words) taken) in (
       c.requires.0,
-      with_others t.call t.others a.list (went_back a again.below r.own),
-      t.call,
-      t.clause,
-      t.others,
-      a.list,
-      c.requires.1,
-      calls_again g.S.Store g.S.Cells.atom_word mid c.take_arguments.new.lists nodes frames words c.args.clause
-          c.requires.1 c.args.behind (with_others t.call t.others a.list (went_back a again.below r.own)) t.call t.clause
-          t.others a.list c.args.call t.calls c.in_ok-take_arguments.ensures.arguments,
+      (
+        with_others t.call t.others a.list (went_back a again.below r.own),
+        t.call,
+        t.clause,
+        t.others,
+        a.list,
+        c.requires.1,
+        calls_again g.S.Store g.S.Cells.atom_word mid c.take_arguments.new.lists nodes frames words c.args.clause
+            c.requires.1 c.args.behind (with_others t.call t.others a.list (went_back a again.below r.own)) t.call
+            t.clause t.others a.list c.args.call t.calls c.in_ok-take_arguments.ensures.arguments,
+      ),
     )
 
 pub returns-clause-came : goal.returns-clause-came

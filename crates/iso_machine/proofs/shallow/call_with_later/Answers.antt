@@ -1,6 +1,7 @@
 use Rattle.std.proofs.Common.{rules, ◌≡◌, ◌+◌, ◌<◌, ◌++◌, ◌∙◌, ℕ, [], ◌∷◌, length, Option, ap, sym, subst, refl, Ok, Err, inl, vec_len, arith}
 use Rattle.std.specs.Prelude.{vec_capacity}
 use Rattle.std.proofs.lemmas.Bool.{false≢true}
+use Rattle.std.proofs.lemmas.Result.{IfOk-weaker}
 use Rattle.iso_model.specs.Search.Walker.{with_others}
 use Rattle.iso_frames.specs.declared.frames.Rest.{Rest}
 use Rattle.iso_search_core.specs.declared.choices.Choice.{Choice}
@@ -22,7 +23,7 @@ use Rattle.iso_machine.proofs.Moves.Went.{went_not}
 use Rattle.iso_machine.specs.declared.calling.Gone.TheVariants as gone
 use Rattle.iso_machine.specs.declared.shallow.Unpushed.{Unpushed}
 use Rattle.iso_machine.proofs.shallow.call_with_later.Given.{Over}
-use Rattle.iso_machine.proofs.shallow.call_with_later.Goals.{After-kept, After-enter_clause, After-reserve}
+use Rattle.iso_machine.proofs.shallow.call_with_later.Goals.{After-len-below, After-enter_clause}
 use Rattle.iso_machine.proofs.shallow.call_with_later.Goals as goal
 
 -- ---- room is made for the choice
@@ -79,7 +80,7 @@ returns-in_err-kept-clause-came g c = λ first goes.
 
 -- ---- the first clause is tried
 
-module _ (g : Over) (c : After-kept g) where
+module _ (g : Over) (c : After-len-below g) where
   abbrev a : ℕ → g.row.S-Word.Denot
   a = g.S.Cells.atom_word
 
@@ -120,20 +121,22 @@ module _ (g : Over) (c : After-kept g) where
 
 pub enter_clause-requires : goal.enter_clause-requires
 enter_clause-requires g c =
-    let h = (goal.at.enter_clause-requires g c).After-kept in
+    let h = (goal.at.enter_clause-requires g c).After-len-below in
     let r = c.requires.calls in (
       choices g h,
-      with_others r.1 r.3 r.4 r.0,
-      r.1,
-      r.2,
-      r.3,
-      r.4,
-      c.args.later.now,
-      c.in_ok-kept.ensures.keeps.calls (choices g h) (last g h) c.args.clause r.0 r.1 r.2 r.3 r.4 (calls_old g h),
+      (
+        with_others r.1 r.3 r.4 r.0,
+        r.1,
+        r.2,
+        r.3,
+        r.4,
+        c.args.later.now,
+        c.in_ok-kept.ensures.keeps.calls (choices g h) (last g h) c.args.clause r.0 r.1 r.2 r.3 r.4 (calls_old g h),
+      ),
     )
 
 module _ (g : Over) (c : After-enter_clause g) where
-  abbrev front : After-kept g
+  abbrev front : After-len-below g
   front = c.before.before
 
   abbrev new : Engine g.row.S.Denot g.row.S-Word.Denot g.row.S-Mark.Denot
@@ -239,8 +242,7 @@ pub returns-in-Ok-Went-clause-steps : goal.returns-in-Ok-Went-clause-steps
 returns-in-Ok-Went-clause-steps g c =
     let h = (goal.at.returns-in-Ok-Went-clause-steps g c).After-enter_clause in
     let same = steps_same g h in
-    let fewer = c.settle.ensures.steps in
-    omega (arith, same, fewer)
+    IfOk-weaker c.settle.result _ _ (λ done fewer. omega (arith, same, fewer)) c.settle.ensures.steps
 
 pub push_kept-requires : goal.push_kept-requires
 push_kept-requires g c = roomy g (goal.at.push_kept-requires g c).After-enter_clause
@@ -258,7 +260,7 @@ unreachable-requires g c =
     let full : c.enter_clause.result ≡ Ok gone.Full = search rules in
     c.enter_clause.ensures.entered full
 
-pub unreachable-in-Ok-Last-requires : goal.unreachable-in-Ok-Last-requires
-unreachable-in-Ok-Last-requires g c =
+pub unreachable-requires-in-Ok-Last : goal.unreachable-requires-in-Ok-Last
+unreachable-requires-in-Ok-Last g c =
     let last : c.enter_clause.result ≡ Ok gone.Last = search rules in
     absurd (false≢true (c.enter_clause.ensures.alone last))

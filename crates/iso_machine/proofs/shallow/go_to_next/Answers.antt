@@ -12,19 +12,19 @@ pub undo-requires : goal.undo-requires
 undo-requires g c =
     let r = c.requires.stands in
     mark_stands g.S.Store g.S.Cells.atom_word c.args.search.now c.args.kept c.args.later.now c.args.put.now.behind
-    r.0 r.1 r.2 r.3
+    r.0 r.1 r.2.0 r.2.1
 
 pub go_back-requires : goal.go_back-requires
 go_back-requires g c =
     let r = c.requires.stands in
     extent_within g.S.Store g.S.Cells.atom_word c.args.search.now c.args.kept c.args.later.now c.args.put.now.behind
-    r.0 r.1 r.2 r.3
+    r.0 r.1 r.2.0 r.2.1
 
 pub next_left-requires : goal.next_left-requires
 next_left-requires g c =
     let r = c.requires.stands in
     gives_left g.S.Store g.S.Cells.atom_word c.args.search.now c.args.kept c.args.later.now c.args.put.now.behind
-    r.0 r.1 r.2 r.3
+    r.0 r.1 r.2.0 r.2.1
 
 pub returns-in-Some-clause-next : goal.returns-in-Some-clause-next
 returns-in-Some-clause-next g c = λ choices others s clause pushed r is again.
@@ -45,7 +45,7 @@ pub forget-requires : goal.forget-requires
 forget-requires g c =
     let r = c.requires.stands in
     let stood = mark_stands g.S.Store g.S.Cells.atom_word c.args.search.now c.args.kept c.args.later.now
-    c.args.put.now.behind r.0 r.1 r.2 r.3 in
+    c.args.put.now.behind r.0 r.1 r.2.0 r.2.1 in
     (stood.0, c.undo.ensures.stands stood.0 stood.1)
 
 pub returns-in-None-clause-last : goal.returns-in-None-clause-last

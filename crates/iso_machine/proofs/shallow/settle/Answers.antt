@@ -14,16 +14,16 @@ cut_or_push-requires-clause-stands g c = λ choices pushed.
     (on.0, on.2)
 
 pub returns-in-Entered-clause-came : goal.returns-in-Entered-clause-came
-returns-in-Entered-clause-came g c = λ first open.
-    c.cut_or_push.ensures.came first (c.try_others.ensures.entered first open c.in-Entered.is)
+returns-in-Entered-clause-came g c = λ first begun.
+    c.cut_or_push.ensures.came first (c.try_others.ensures.entered first begun c.in-Entered.is)
 
 pub returns-in-Refused-clause-came : goal.returns-in-Refused-clause-came
-returns-in-Refused-clause-came g c = λ first open.
+returns-in-Refused-clause-came g c = λ first begun.
     subst (λ (e : Engine g.row.S.Denot g.row.S-Word.Denot g.row.S-Mark.Denot).
     CameTo g.S.Store g.S.Cells.atom_word first (Err c.in-Refused.fault) e) (sym c.push_kept.ensures.same)
-    (c.try_others.ensures.refused first c.in-Refused.fault open c.in-Refused.is c.push_kept.new.search.choices
+    (c.try_others.ensures.refused first c.in-Refused.fault begun c.in-Refused.is c.push_kept.new.search.choices
     c.push_kept.ensures.pushed)
 
 pub returns-in-Last-clause-came : goal.returns-in-Last-clause-came
-returns-in-Last-clause-came g c = λ first open.
-    c.try_others.ensures.last first c.in-Last.done open c.in-Last.is
+returns-in-Last-clause-came g c = λ first begun.
+    c.try_others.ensures.last first c.in-Last.done begun c.in-Last.is
