@@ -93,7 +93,6 @@ fn keep_later<S: Cells + Drop>(
     })
 }
 
-
 /// The place of the instruction that comes first, where it cuts back to this height as its clause was called.
 #[inline(always)]
 fn cut_first<S: Cells + Drop>(search: &Search<S, Framed<S>>, count: usize) -> Option<Rest>

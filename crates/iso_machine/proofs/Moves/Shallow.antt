@@ -46,7 +46,7 @@ use Rattle.iso_frames.specs.declared.frames.Level.{Level}
 use Rattle.iso_frames.specs.declared.frames.Frame.{Frame}
 use Rattle.iso_environments.specs.Goals.{goal_of}
 use Rattle.iso_environments.specs.Leveled.{IsAtClause}
-use Rattle.iso_search.specs.EngineStates.{IsAhead, IsBehind, Remains, Represents, StandsAs, cost, kept_cost, phase_of}
+use Rattle.iso_search.specs.EngineStates.{IsAhead, IsBehind, Remains, Represents, StandsAs, kept_cost, phase_of}
 use Rattle.iso_search.specs.Stays.{Stays}
 use Rattle.iso_search.proofs.AheadLemmas.{ahead_cut}
 use Rattle.iso_search.proofs.BackLemmas.{GoesBack, goes_back}
@@ -71,7 +71,7 @@ use Rattle.iso_machine.specs.Unpushed.{CallsFor, Choices, Entering, HasPushed, H
 use Rattle.iso_machine.proofs.CameLemmas.{came_on}
 use Rattle.iso_machine.proofs.Moves.Cut.{below, cut_ahead, cut_at, cut_moved}
 use Rattle.iso_machine.proofs.Moves.Went.{came_moved}
-use Rattle.iso_machine.proofs.Moves.Kept.{calls_put, kept_ahead, kept_behind, kept_calls, kept_costs, put_on}
+use Rattle.iso_machine.proofs.Moves.Kept.{calls_put, kept_behind, kept_calls, kept_costs, put_on}
 
 -- one choice more
 pub choices_with : {W M : Type 0} (v : Choices W M) (c : Choice W M Extent (Option Rest) KeptCall)

@@ -1,6 +1,5 @@
 -- A fault of an engine is one of an engine that has one choice more.
-use Rattle.std.proofs.Common.{◌≡◌, ℕ, List, ◌∷◌, ◌++◌, length, Option, Some, Result, refl, ap, subst, sym, ◌∙◌, arith}
-use Rattle.iso_model.specs.Terms.Trees.{Tree}
+use Rattle.std.proofs.Common.{◌≡◌, ℕ, ◌∷◌, length, Option, Result, refl, ap, subst, sym, ◌∙◌, arith}
 use Rattle.iso_model.specs.Terms.TermOf.{term_of}
 use Rattle.iso_model.specs.Search.Walker.{State, Raise, cut_back}
 use Rattle.iso_model.specs.declared.pauses.Ball.{Ball}

@@ -13,7 +13,7 @@ returns-in_err-compute g c =
     c.from_residual.ensures.1 (c.in_err-compute.ensures.came c.requires.stands.0 c.requires.stands.1)
 
 pub returns : goal.returns
-returns g c = 
+returns g c =
     moved_came g.S.Store g.S.Cells.atom_word
     (c.in_ok-compute.ensures.came c.requires.stands.0 c.requires.stands.1)
 

@@ -1,4 +1,4 @@
-use Rattle.std.proofs.Common.{◌≡◌, Result, refl, ◌≤◌, ◌<◌, ◌+◌, ◌*◌, ◌++◌, ◌∙◌, Option, Some, Ok, Vec, Global, length, ap, subst, sym, arith}
+use Rattle.std.proofs.Common.{refl, ◌≤◌, ◌<◌, ◌+◌, ◌*◌, ◌++◌, ◌∙◌, Option, Some, Ok, Vec, Global, length, ap, subst, sym, arith}
 use Rattle.iso_model.specs.Search.Walker.{body_size}
 use Rattle.iso_program.proofs.LeavingLemmas.{left_clause}
 use Rattle.iso_program.proofs.ResultLemmas.{behind_error}
@@ -23,8 +23,6 @@ use Rattle.iso_machine.specs.LastCalls.{place_of, with_frames}
 use Rattle.iso_machine.proofs.BodyCells.{clause_cells}
 use Rattle.iso_machine.proofs.LastEntered.{frames_last, has_last, last_costs, last_grows, last_unframed}
 use Rattle.iso_machine.proofs.LastFrames.{last_engine, last_pending}
-use Rattle.iso_store_core.specs.declared.shapes.StoreFault.{StoreFault}
-use Rattle.iso_machine.specs.declared.calling.Gone.{Gone}
 use Rattle.iso_machine.specs.Unpushed.{with_choices}
 use Rattle.iso_machine.proofs.CameLemmas.{error_else}
 use Rattle.iso_machine.proofs.calling.enter_clause.Goals as goal

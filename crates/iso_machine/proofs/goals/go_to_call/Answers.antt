@@ -50,7 +50,7 @@ returns-in_err-compute-in-Computes-clause-came g c = λ old first.
     (c.in_err-compute-in-Computes.ensures.came c.loop-rest.invariant.state c.loop-rest.invariant.stands))
 
 pub loop-rest-smaller-then-search-ne0 : goal.loop-rest-smaller-then-search-ne0
-loop-rest-smaller-then-search-ne0 g c = 
+loop-rest-smaller-then-search-ne0 g c =
     (let h = c.loop-rest.invariant in (c.in_ok-compute-in-Computes.ensures.came h.state h.stands None).falls)
 
 pub loop-rest-preserved-then-search-ne0 : goal.loop-rest-preserved-then-search-ne0

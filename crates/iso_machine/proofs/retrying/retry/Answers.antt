@@ -1,4 +1,4 @@
-use Rattle.std.proofs.Common.{◌≡◌, ◌∙◌, ℕ, Option, Ok, Err, ap, arith}
+use Rattle.std.proofs.Common.{◌∙◌, ℕ, Ok, Err, ap, arith}
 use Rattle.iso_model.specs.Search.Walker.{with_others}
 use Rattle.iso_search_core.specs.Bodies.{body_cost, most}
 use Rattle.iso_search.specs.EngineStates.{went_back}

@@ -1,4 +1,4 @@
-use Rattle.std.proofs.Common.{◌∙◌, ℕ, Option, ap, arith, sym, subst}
+use Rattle.std.proofs.Common.{◌∙◌, Option, ap, arith}
 use Rattle.std.proofs.lemmas.Result.{IfOk-weaker}
 use Rattle.iso_search_core.specs.Bodies.{body_cost, most}
 use Rattle.iso_search_core.specs.Costs.{choices_cost}

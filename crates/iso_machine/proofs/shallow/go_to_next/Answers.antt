@@ -1,4 +1,4 @@
-use Rattle.std.proofs.Common.{◌≡◌, ◌∙◌, ◌<◌, ℕ, Option, Some, None, refl, ap, sym, subst}
+use Rattle.std.proofs.Common.{◌≡◌, ◌∙◌, ◌<◌, ℕ, Option, Some, subst}
 use Rattle.std.specs.Option.{IfSome}
 use Rattle.iso_db.specs.Keyed.{remaining_keyed}
 use Rattle.iso_program.specs.Leaving.{AreLeft, NextLeft}

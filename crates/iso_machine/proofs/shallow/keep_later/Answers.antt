@@ -1,4 +1,4 @@
-use Rattle.std.proofs.Common.{◌≡◌, ℕ, Option, [], length, arith, ap, sym, subst, refl}
+use Rattle.std.proofs.Common.{◌≡◌, ℕ, Option, [], length, arith, ap, subst, refl}
 use Rattle.iso_program.specs.Leaving.{AreLeft, NextLeft}
 use Rattle.iso_program.proofs.LeavingLemmas.{left_behind}
 use Rattle.iso_program.proofs.ResultLemmas.{behind_error}

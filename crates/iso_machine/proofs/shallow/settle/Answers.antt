@@ -1,5 +1,4 @@
-use Rattle.std.proofs.Common.{◌≡◌, ◌∙◌, ◌<◌, ◌≤◌, ℕ, length, ap, sym, subst, Ok, Err, None, arith}
-use Rattle.iso_search.specs.declared.calls.Next.TheVariants as calls
+use Rattle.std.proofs.Common.{sym, subst, Err, None}
 use Rattle.iso_machine.specs.Came.{CameTo}
 use Rattle.iso_machine.specs.Engines.{Engine}
 use Rattle.iso_machine.proofs.shallow.settle.Goals as goal

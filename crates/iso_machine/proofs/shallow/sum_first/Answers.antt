@@ -1,4 +1,3 @@
-use Rattle.iso_environments.specs.Answering.{IsArithmeticThere}
 use Rattle.iso_machine.specs.Unpushed.{with_choices}
 use Rattle.iso_machine.proofs.FirstGoals.{engine_stops}
 use Rattle.iso_machine.proofs.shallow.sum_first.Goals as goal

@@ -1,10 +1,9 @@
-use Rattle.std.proofs.Common.{rules, ◌≡◌, ◌+◌, ◌<◌, ◌++◌, ◌∙◌, ℕ, [], ◌∷◌, length, Option, None, Some, ap, sym, subst, refl, Ok, Err, arith}
+use Rattle.std.proofs.Common.{◌≡◌, ◌+◌, ◌<◌, ◌++◌, ◌∙◌, ℕ, [], ◌∷◌, length, Option, ap, sym, subst, Err, arith}
 use Rattle.iso_model.specs.Search.Walker.{State}
 use Rattle.iso_store_core.specs.declared.shapes.StoreFault.{StoreFault}
 use Rattle.iso_frames.specs.declared.frames.Rest.{Rest}
 use Rattle.iso_search_core.specs.declared.choices.Choice.{Choice}
 use Rattle.iso_search.specs.EngineStates.{Represents}
-use Rattle.iso_search.specs.declared.calls.Next.TheVariants as calls
 use Rattle.iso_machine.specs.declared.framed.Extent.{Extent}
 use Rattle.iso_machine.specs.declared.framed.KeptCall.{KeptCall}
 use Rattle.iso_machine.specs.Came.{CameTo, went_on}
