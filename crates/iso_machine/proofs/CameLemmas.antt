@@ -59,6 +59,11 @@ pub full_behind : {T Fact : Type 0} (result : Result T StoreFault) (e : StoreFau
 full_behind (Ok t) e is fact full = absurd is
 full_behind (Err x) e is fact full = (let same : x ≡ fault.Full = cc in fact (sym is ∙ same))
 
+-- a refusal is nothing else
+pub error_else : {T Fact : Type 0} {t : T} (result : Result T StoreFault) → IsErr result → result ≡ Ok t → Fact
+error_else (Ok t) is done = absurd (false≢true is)
+error_else (Err e) is done = absurd (cc done)
+
 -- a result that is this error
 pub same_error : {T : Type 0} (result : Result T StoreFault) (e : StoreFault) → IsErr result
     → IsErrAnd result (λ x. x ≡ e) → Err e ≡ result

@@ -133,14 +133,20 @@ module _ {S W M : Type 0} (g : Ghosts S W M) (atom_word : ℕ → W) where
   }
 
   -- code that comes first is at an instruction of a clause
+  pub engine_stops : (e : Engine S W M) (r : Rest) → e.now ≡ now.Running (next.Code r) → (s : State)
+      → IsEngine g (framed atom_word) e s
+      → (f : Frame) × (code : Rc Code Global) × (level : Option Level) × IsAtClause e.lists.frames.items r f code level
+      × (r.address < length code.value.body.items)
+  engine_stops e r doing s is =
+      let stops : StopsAt atom_word (stack_of e.lists) r =
+      (next_is g (framed atom_word) e s (now.Running (next.Code r)) doing is).0.1 in
+      (stops.frame, stops.code, stops.level, record { at = stops.at.is; work = stops.work }, stops.stops.inside)
+
   pub code_stops : (e : Engine S W M) (r : Rest) → e.now ≡ now.Running (next.Code r) → (s : State)
       → Represents g (framed atom_word) e s
       → (f : Frame) × (code : Rc Code Global) × (level : Option Level) × IsAtClause e.lists.frames.items r f code level
       × (r.address < length code.value.body.items)
-  code_stops e r doing s is =
-      let stops : StopsAt atom_word (stack_of e.lists) r =
-      (next_is g (framed atom_word) e is.own (now.Running (next.Code r)) doing is.engine).0.1 in
-      (stops.frame, stops.code, stops.level, record { at = stops.at.is; work = stops.work }, stops.stops.inside)
+  code_stops e r doing s is = engine_stops e r doing is.own is.engine
 
   module _ (e : Engine S W M) (link : Link) (doing : e.now ≡ now.Running (next.Member link)) where
     -- The engine, in this state, is to run the body at this place.

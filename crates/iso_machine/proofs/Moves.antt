@@ -10,6 +10,9 @@ pub mod Instruction
 pub mod Kept
 pub mod Last
 pub mod Level
+pub mod Shallow
 pub mod Split
+pub mod Thrown
 pub mod Try
+pub mod Unpushed
 pub mod Went

@@ -15,4 +15,5 @@ pub mod MemberLaws
 pub mod Newest
 pub mod Outcomes
 pub mod Steps
+pub mod Unpushed
 pub mod Wholes

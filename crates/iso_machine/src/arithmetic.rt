@@ -11,6 +11,7 @@ ghost use Rattle.iso_machine.specs.Came.{CameTo, went_on};
 ghost use Rattle.iso_machine.specs.Engines.{framed};
 ghost use Rattle.iso_machine.specs.Firsts.{GoesOn};
 ghost use Rattle.iso_machine.specs.Lists.{IsList, extent_of};
+ghost use Rattle.iso_machine.specs.Unpushed.{Choices, HasOneMore, with_choices};
 
 use super::framed::Framed;
 use iso_cells::Cells;
@@ -43,7 +44,8 @@ pub(crate) fn run_arithmetic<S: Cells + Drop>(
 }
 
 /// Does the arithmetic of the instruction there, where a step is left: its goal takes it, and succeeds, fails, or throws
-/// a ball (8.6.1, 8.7.1). The errors: the store is full, or memory was refused.
+/// a ball (8.6.1, 8.7.1). It is no matter whether one choice more stands. The errors: the store is full, or memory was
+/// refused.
 pub(crate) fn compute<S: Cells + Drop>(
     search: &mut Search<S, Framed<S>>,
     rest: Rest,
@@ -51,8 +53,15 @@ pub(crate) fn compute<S: Cells + Drop>(
     requires now { search.old.now ≡ now.Running (next.Code rest) }
     requires there { IsArithmeticThere search.old.lists.frames.items rest }
     requires more { search.old.steps ≢ 0 }
-    requires stands { (s : State) × Represents S.Store (framed S.atom_word) search.old s }
-    ensures came { CameTo S.Store S.atom_word search.old (went_on result) search.new }
+    requires stands { (choices : Choices S.Word S.Mark) × (s : State)
+        × Represents S.Store (framed S.atom_word) (with_choices search.old choices) s }
+    ensures came { (s : State) → Represents S.Store (framed S.atom_word) search.old s
+        → CameTo S.Store S.atom_word search.old (went_on result) search.new }
+    ensures over { (choices : Choices S.Word S.Mark) (s : State) → HasOneMore search.old choices
+        → Represents S.Store (framed S.atom_word) (with_choices search.old choices) s
+        → CameTo S.Store S.atom_word (with_choices search.old choices) (went_on result)
+        (with_choices search.new choices) }
+    ensures same { search.new.choices ≡ search.old.choices }
     ensures steps { IfOk result (λ done. search.new.steps < search.old.steps) }
 {
     let answered = answer(
@@ -114,8 +123,14 @@ fn go_on_from<S: Cells + Drop>(
     answered: Result<Reply, Fault>,
     rest: Rest,
 ) -> Result<(), StoreFault>
-    requires { (e : _) × HasComputed S.Store S.atom_word e search.old rest answered
+    requires { (choices : Choices S.Word S.Mark) × (e : _)
+        × HasComputed S.Store S.atom_word e (with_choices search.old choices) rest answered
         × ((s : State) × Represents S.Store (framed S.atom_word) e s) }
+    ensures over { (choices : Choices S.Word S.Mark) (e : _) (s : State) → HasOneMore search.old choices
+        → HasComputed S.Store S.atom_word e (with_choices search.old choices) rest answered
+        → Represents S.Store (framed S.atom_word) e s
+        → CameTo S.Store S.atom_word e (went_on result) (with_choices search.new choices) }
+    ensures same { search.new.choices ≡ search.old.choices }
     ensures came { (e : _) (s : State) → HasComputed S.Store S.atom_word e search.old rest answered
         → Represents S.Store (framed S.atom_word) e s
         → CameTo S.Store S.atom_word e (went_on result) search.new }

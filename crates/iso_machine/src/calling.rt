@@ -22,6 +22,7 @@ ghost use Rattle.iso_environments.specs.Goals.{goal_of};
 ghost use Rattle.iso_machine.specs.GoalCalls.{CallsPut};
 ghost use Rattle.iso_machine.specs.Lists.{IsFor, KeepsFrames, arguments_at, cost_at, extent_of};
 ghost use Rattle.iso_machine.specs.Newest.{frames_kept, words_kept};
+ghost use Rattle.iso_machine.specs.Unpushed.{Choices, Entering, IsToEnter, with_choices};
 
 use super::coming::go_on;
 use super::entering::{Entered, enter, makes_frame};
@@ -99,6 +100,7 @@ pub(crate) fn keep_arguments<S: Cells>(
     ensures words { Adds lists.old.words.items lists.new.words.items }
     ensures many { IfOk result (λ c. length lists.new.words.items
         ≡ length lists.old.words.items + length lists.old.arguments.items) }
+    ensures name { IfOk result (λ c. c.name ≡ name) }
     ensures same { lists.new ≡ record lists.old { words = lists.new.words } }
 {
     let start = lists.words.len();
@@ -125,96 +127,6 @@ pub(crate) fn take_arguments<S: Cells>(
     lists.arguments.push_all(words)
 }
 
-/// Keeps the later clauses of the call of this name, which the view gives, as a choice where there are any (7.7.8), and
-/// one more may come then: true. The choice keeps the arguments that were put. The error is that memory was refused.
-#[inline(always)]
-fn push_later<S: Cells + Drop>(
-    search: &mut Search<S, Framed<S>>,
-    later: &mut KeyedView,
-    put: &Put,
-) -> Result<bool, AllocError>
-    requires room { (first : ℕ) (s : State) (goal : Tree) (c : databases.Clause) (cs : List databases.Clause)
-        (behind : List Member) → CallsPut S.Store S.atom_word search.old first later.old
-        put.now.name put.now.behind s goal c cs behind
-        → 0 < length cs → length search.old.choices.items < search.old.limit }
-    requires calls { (first : ℕ) × (s : State) × (goal : Tree) × (c : databases.Clause) × (cs : List databases.Clause)
-        × (behind : List Member) × CallsPut S.Store S.atom_word search.old first later.old
-        put.now.name put.now.behind s goal c cs behind }
-    ensures calls { (first : ℕ) (s : State) (goal : Tree) (c : databases.Clause) (cs : List databases.Clause)
-        (behind : List Member) → CallsPut S.Store S.atom_word search.old first later.old
-        put.now.name put.now.behind s goal c cs behind
-        → result ≡ Ok true → CallsPut S.Store S.atom_word search.new first later.old
-        put.now.name put.now.behind (with_others goal cs behind s) goal c cs behind }
-    ensures kept { (first : ℕ) (s : State) (goal : Tree) (c : databases.Clause) (cs : List databases.Clause)
-        (behind : List Member) → CallsPut S.Store S.atom_word search.old first later.old
-        put.now.name put.now.behind s goal c cs behind
-        → OnErr result (Remains S.Store (framed S.atom_word) search.new s) }
-    ensures room { result ≢ Ok false }
-    ensures costs { result ≡ Ok true → kept_cost (framed S.atom_word) search.new
-        ≤ kept_cost (framed S.atom_word) search.old + left_cost most (cost_at search.old.lists put.now.behind) }
-    ensures same { search.new ≡ record search.old {
-      store = search.new.store;
-      choices = search.new.choices;
-      lists
-          = record search.old.lists { words = search.new.lists.words };
-    } }
-    ensures stays { Stays S.Store search.old search.new }
-{
-    if !has_left(&search.db, later) {
-        return Ok(true);
-    }
-    push_left(search, later, put)
-}
-
-/// The same, by a call, since most calls leave no clause.
-#[inline(never)]
-fn push_left<S: Cells + Drop>(
-    search: &mut Search<S, Framed<S>>,
-    later: &mut KeyedView,
-    put: &Put,
-) -> Result<bool, AllocError>
-    requires room { (first : ℕ) (s : State) (goal : Tree) (c : databases.Clause) (cs : List databases.Clause)
-        (behind : List Member) → CallsPut S.Store S.atom_word search.old first later.old
-        put.now.name put.now.behind s goal c cs behind
-        → 0 < length cs → length search.old.choices.items < search.old.limit }
-    requires calls { (first : ℕ) × (s : State) × (goal : Tree) × (c : databases.Clause) × (cs : List databases.Clause)
-        × (behind : List Member) × CallsPut S.Store S.atom_word search.old first later.old
-        put.now.name put.now.behind s goal c cs behind }
-    ensures calls { (first : ℕ) (s : State) (goal : Tree) (c : databases.Clause) (cs : List databases.Clause)
-        (behind : List Member) → CallsPut S.Store S.atom_word search.old first later.old
-        put.now.name put.now.behind s goal c cs behind
-        → result ≡ Ok true → CallsPut S.Store S.atom_word search.new first later.old
-        put.now.name put.now.behind (with_others goal cs behind s) goal c cs behind }
-    ensures kept { (first : ℕ) (s : State) (goal : Tree) (c : databases.Clause) (cs : List databases.Clause)
-        (behind : List Member) → CallsPut S.Store S.atom_word search.old first later.old
-        put.now.name put.now.behind s goal c cs behind
-        → OnErr result (Remains S.Store (framed S.atom_word) search.new s) }
-    ensures room { result ≢ Ok false }
-    ensures costs { result ≡ Ok true → kept_cost (framed S.atom_word) search.new
-        ≤ kept_cost (framed S.atom_word) search.old + left_cost most (cost_at search.old.lists put.now.behind) }
-    ensures same { search.new ≡ record search.old {
-      store = search.new.store;
-      choices = search.new.choices;
-      lists
-          = record search.old.lists { words = search.new.lists.words };
-    } }
-    ensures stays { Stays S.Store search.old search.new }
-{
-    if !has_left(&search.db, later) {
-        return Ok(true);
-    }
-    let Some(clause) = next_left(&search.db, later) else {
-        unreachable!();
-    };
-    let call = keep_arguments(&mut search.lists, put.name)?;
-    let left = Left::Clauses(Attempt {
-        clause,
-        later: *later,
-        call,
-    });
-    search.push_choice(left, put.behind)
-}
-
 /// Whether a clause may have no frame: where it is said to be the last, and frames are few.
 fn may_go_last<S: Cells + Drop>(search: &Search<S, Framed<S>>, last: bool) -> bool
     ensures last { result ≡ true → last ≡ true }
@@ -225,7 +137,8 @@ fn may_go_last<S: Cells + Drop>(search: &Search<S, Framed<S>>, last: bool) -> bo
 
 /// Enters the clause for the call of this name whose arguments were put, before the list from this place on, with this
 /// cut mark; where its head doesn't unify with the call the engine fails next (7.7.10). It makes no frame where it is
-/// said to be the last and its body is one goal of a procedure. The errors: the store is full, or memory was refused.
+/// said to be the last and its body is one goal of a procedure. Which choices stand is no matter. The errors: the store is
+/// full, or memory was refused.
 #[inline(never)]
 pub(crate) fn enter_clause<S: Cells + Drop>(
     search: &mut Search<S, Framed<S>>,
@@ -234,30 +147,20 @@ pub(crate) fn enter_clause<S: Cells + Drop>(
     mark: usize,
     last: bool,
 ) -> Result<Gone, StoreFault>
-    requires { (s : State) × (goal : Tree) × (c : databases.Clause) × (cs : List databases.Clause)
-        × (behind : List Member) × (later : KeyedView) × CallsPut S.Store S.atom_word search.old clause later
-        put.now.name put.now.behind s goal c cs behind }
-    ensures tried { (s : State) (goal : Tree) (c : databases.Clause) (cs : List databases.Clause)
-        (behind : List Member) (later : KeyedView) → CallsPut S.Store S.atom_word search.old clause later
-        put.now.name put.now.behind s goal c cs behind
-        → result ≡ Ok Gone.Went → StandsAs S.Store (framed S.atom_word) search.new (tried_clause goal c mark behind s) }
-    ensures kept { (s : State) (goal : Tree) (c : databases.Clause) (cs : List databases.Clause)
-        (behind : List Member) (later : KeyedView) → CallsPut S.Store S.atom_word search.old clause later
-        put.now.name put.now.behind s goal c cs behind
-        → OnErr result (Remains S.Store (framed S.atom_word) search.new (tried_clause goal c mark behind s)) }
+    requires { (choices : Choices S.Word S.Mark) × IsToEnter S.Store S.atom_word (with_choices search.old choices) clause
+        put.now.name put.now.behind }
+    ensures itself { Entering S.Store S.atom_word search.old search.new clause put.now.name put.now.behind mark result }
+    ensures over { (choices : Choices S.Word S.Mark) → Entering S.Store S.atom_word (with_choices search.old choices)
+        (with_choices search.new choices) clause put.now.name put.now.behind mark result }
     ensures alone { result ≡ Ok Gone.Last → last ≡ true }
-    ensures last { result ≡ Ok Gone.Last → GoesLast search.new clause put.now.behind (λ e. ((s : State) (goal : Tree)
-        (c : databases.Clause) (cs : List databases.Clause) (behind : List Member) (later : KeyedView)
-        → CallsPut S.Store S.atom_word search.old clause later put.now.name put.now.behind s goal c cs behind
-        → StandsAs S.Store (framed S.atom_word) e (tried_clause goal c mark behind s))
-        × (cost (framed S.atom_word) e
-        ≤ kept_cost (framed S.atom_word) search.old + body_cost most (cost_at search.old.lists put.now.behind))) }
     ensures entered { result ≢ Ok Gone.Full }
-    ensures steps { search.new.steps ≡ search.old.steps }
     ensures awake { result ≡ Ok Gone.Went → IsAwake (phase_of search.new.now) }
     ensures heap { result ≡ Err StoreFault.Full → S.full search.new.store }
-    ensures costs { result ≡ Ok Gone.Went → cost (framed S.atom_word) search.new
-        ≤ kept_cost (framed S.atom_word) search.old + body_cost most (cost_at search.old.lists put.now.behind) }
+    ensures same { search.new ≡ record search.old {
+      store = search.new.store;
+      lists = search.new.lists;
+      now = search.new.now;
+    } }
     ensures stays { Stays S.Store search.old search.new }
 {
     let last = may_go_last(search, last);
@@ -280,7 +183,7 @@ pub(crate) fn enter_clause<S: Cells + Drop>(
 /// Whether a choice or a frame is to come for the call, of which this clause comes first and then those that the view
 /// gives, and none may come any more.
 #[inline(always)]
-fn lacks_room<S: Cells + Drop>(
+pub(crate) fn lacks_room<S: Cells + Drop>(
     search: &Search<S, Framed<S>>,
     clause: ClauseId,
     later: &KeyedView,
@@ -295,6 +198,10 @@ fn lacks_room<S: Cells + Drop>(
         (behind : List Member) (name : ℕ) → CallsPut S.Store S.atom_word search.entry.now first later.now
         name put.now.behind s goal c cs behind
         → result ≡ false → 0 < length cs → length search.entry.now.choices.items < search.entry.now.limit }
+    ensures few { (first : ℕ) (s : State) (goal : Tree) (c : databases.Clause) (cs : List databases.Clause)
+        (behind : List Member) (name : ℕ) → CallsPut S.Store S.atom_word search.entry.now first later.now
+        name put.now.behind s goal c cs behind
+        → result ≡ false → 0 < length cs → length search.entry.now.choices.items < 2 ^ 32 }
 {
     if search.choices.len() + search.lists.frames.len() < search.limit as usize {
         return false;
@@ -320,6 +227,10 @@ fn lacks_more<S: Cells + Drop>(
         (behind : List Member) (name : ℕ) → CallsPut S.Store S.atom_word search.entry.now first later.now
         name put.now.behind s goal c cs behind
         → result ≡ false → 0 < length cs → length search.entry.now.choices.items < search.entry.now.limit }
+    ensures few { (first : ℕ) (s : State) (goal : Tree) (c : databases.Clause) (cs : List databases.Clause)
+        (behind : List Member) (name : ℕ) → CallsPut S.Store S.atom_word search.entry.now first later.now
+        name put.now.behind s goal c cs behind
+        → result ≡ false → 0 < length cs → length search.entry.now.choices.items < 2 ^ 32 }
 {
     if has_room(search, &put.behind) {
         return false;
@@ -328,55 +239,4 @@ fn lacks_more<S: Cells + Drop>(
         return true;
     }
     makes_frame(search.db.clause(clause).own.kept.as_ref(), last)
-}
-
-/// Calls the procedure of this name with the arguments that were put, where the choice and the frame may come that it
-/// makes: this clause is entered, those behind it, which the view gives, are one choice (7.7.7). It makes no frame
-/// where it is said to be the last and the clause's body is one goal of a procedure. The errors: the store is full, or
-/// memory was refused.
-#[inline(always)]
-pub(crate) fn call<S: Cells + Drop>(
-    search: &mut Search<S, Framed<S>>,
-    clause: ClauseId,
-    later: &mut KeyedView,
-    put: &Put,
-    last: bool,
-) -> Result<Gone, StoreFault>
-    requires { (s : State) × (goal : Tree) × (c : databases.Clause) × (cs : List databases.Clause)
-        × (behind : List Member) × CallsPut S.Store S.atom_word search.old clause later.old
-        put.now.name put.now.behind s goal c cs behind }
-    ensures tried { (s : State) (goal : Tree) (c : databases.Clause) (cs : List databases.Clause)
-        (behind : List Member) → CallsPut S.Store S.atom_word search.old clause later.old
-        put.now.name put.now.behind s goal c cs behind
-        → result ≡ Ok Gone.Went → StandsAs S.Store (framed S.atom_word) search.new (tried goal (c ∷ cs) behind s) }
-    ensures full { result ≡ Ok Gone.Full → search.new ≡ search.old }
-    ensures beyond { result ≡ Ok Gone.Full → IsBeyond S.Store S.atom_word search.old put.now.behind }
-    ensures kept { (s : State) (goal : Tree) (c : databases.Clause) (cs : List databases.Clause)
-        (behind : List Member) → CallsPut S.Store S.atom_word search.old clause later.old
-        put.now.name put.now.behind s goal c cs behind
-        → OnErr result (WasRefused S.Store (framed S.atom_word) search.new s (tried goal (c ∷ cs) behind s)) }
-    ensures alone { result ≡ Ok Gone.Last → last ≡ true }
-    ensures last { result ≡ Ok Gone.Last → GoesLast search.new clause put.now.behind (λ e. ((s : State) (goal : Tree)
-        (c : databases.Clause) (cs : List databases.Clause) (behind : List Member)
-        → CallsPut S.Store S.atom_word search.old clause later.old put.now.name put.now.behind s goal c cs behind
-        → StandsAs S.Store (framed S.atom_word) e (tried goal (c ∷ cs) behind s))
-        × (cost (framed S.atom_word) e ≤ kept_cost (framed S.atom_word) search.old
-        + left_cost most (cost_at search.old.lists put.now.behind)
-        + body_cost most (cost_at search.old.lists put.now.behind))) }
-    ensures awake { result ≡ Ok Gone.Went → IsAwake (phase_of search.new.now) }
-    ensures heap { result ≡ Err StoreFault.Full → S.full search.new.store }
-    ensures steps { search.new.steps ≡ search.old.steps }
-    ensures stays { Stays S.Store search.old search.new }
-    ensures costs { result ≡ Ok Gone.Went → cost (framed S.atom_word) search.new
-        ≤ kept_cost (framed S.atom_word) search.old + left_cost most (cost_at search.old.lists put.now.behind)
-        + body_cost most (cost_at search.old.lists put.now.behind) }
-{
-    if lacks_room(search, clause, later, put, last) {
-        return Ok(Gone::Full);
-    }
-    let mark = search.choices.len();
-    if !push_later(search, later, put)? {
-        unreachable!();
-    }
-    enter_clause(search, clause, put, mark, last)
 }

@@ -38,7 +38,7 @@ fn at(rest: Rest, address: usize) -> Option<Rest>
 }
 
 /// The height of the mark, in the clause of the frame there; the most that a number can be where it is above that.
-fn height_at(frames: &[Frame], rest: Rest, mark: Mark) -> usize
+pub(crate) fn height_at(frames: &[Frame], rest: Rest, mark: Mark) -> usize
     requires { (f : _) × (code : _) × (level : Option _) × (kept : ℕ → ℕ) × IsAtClause frames.now rest f code level
         × Levels frames.now rest.frame level kept }
     ensures { (f : _) (code : _) (level : Option _) (kept : ℕ → ℕ) → IsAtClause frames.now rest f code level

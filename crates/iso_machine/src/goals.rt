@@ -212,7 +212,7 @@ fn leave_goal<S: Cells + Drop>(
 
 /// The place of the instruction that comes first, where one does.
 #[inline(always)]
-fn code_first<W: Copy>(doing: &Now<First<W>, Option<Rest>>) -> Option<Rest>
+pub(crate) fn code_first<W: Copy>(doing: &Now<First<W>, Option<Rest>>) -> Option<Rest>
     ensures { IfSome result (λ rest. doing.now ≡ now.Running (next.Code rest)) }
 {
     match doing {

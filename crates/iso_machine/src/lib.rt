@@ -17,6 +17,7 @@ mod outcomes;
 mod putting;
 mod retrying;
 mod room;
+mod shallow;
 mod steps;
 
 pub use framed::{Extent, Framed, KeptCall};

@@ -27,14 +27,16 @@ ghost use Rattle.iso_machine.specs.GoalCalls.{IsCallPut, IsToCall, IsShown, goal
 ghost use Rattle.iso_machine.specs.Lists.{IsPut, cost_at};
 ghost use Rattle.iso_machine.specs.Newest.{frames_kept, words_kept};
 
-use super::calling::{Gone, call, give_up};
+use super::calling::{Gone, enter_clause, give_up, lacks_room};
 use super::framed::Framed;
+use super::shallow::call_with_later;
 use iso_atoms::Atom;
 use iso_cells::Cells;
 use iso_db::{ClauseId, KeyedView};
 use iso_environments::Put;
 use iso_frames::{Next as First, Rest};
 use iso_model::Limit;
+use iso_program::left_clauses::has_left;
 use iso_search::calls::{Called, Next, NextGoal};
 use iso_search::search::Search;
 use iso_search_core::nows::Now;
@@ -87,12 +89,18 @@ pub(crate) fn go<S: Cells + Drop>(
     ensures steps { IfOk result (λ gone. search.new.steps < search.old.steps) }
 {
     make_ready(search, put.name, put.behind);
-    match call(search, clause, later, put, last)? {
+    if lacks_room(search, clause, later, put, last) {
+        search.now = Now::Spent(Limit::Frames);
+        return Ok(Gone::Full);
+    }
+    if has_left(&search.db, later) {
+        call_with_later(search, clause, later, put)?;
+        return Ok(Gone::Went);
+    }
+    let mark = search.choices.len();
+    match enter_clause(search, clause, put, mark, last)? {
         Gone::Went => Ok(Gone::Went),
-        Gone::Full => {
-            search.now = Now::Spent(Limit::Frames);
-            Ok(Gone::Full)
-        }
+        Gone::Full => unreachable!(),
         Gone::Last => Ok(Gone::Last),
     }
 }

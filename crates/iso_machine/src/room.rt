@@ -1,6 +1,6 @@
 //! Whether frames and choices may still come: while they are few; or while what they are for, members and alternatives
 //! of the search, is little beside how many there may be.
-ghost use Rattle.std.specs.Prelude.{◌≡◌, ◌≤◌, ◌<◌, ℕ, List, Option, length, true, false};
+ghost use Rattle.std.specs.Prelude.{◌≡◌, ◌≤◌, ◌<◌, ◌^◌, ℕ, List, Option, length, true, false};
 ghost use Rattle.iso_model.specs.Terms.Trees.{Tree};
 ghost use Rattle.iso_model.specs.Search.Walker.{Alternative, Member};
 ghost use Rattle.iso_store_core.specs.Presents.{Present};
@@ -63,6 +63,7 @@ pub(crate) fn has_room<S: Cells + Drop>(search: &Search<S, Framed<S>>, place: &O
         × HasChoices S.Store (framed S.atom_word) search.now query ks
         × IsList S.atom_word (S.present search.now.store) search.now.lists (extent_of search.now.lists) place.now ms }
     ensures room { result ≡ true → length search.entry.now.choices.items < search.entry.now.limit }
+    ensures few { result ≡ true → length search.entry.now.choices.items < 2 ^ 32 }
     ensures full { result ≡ false → IsBeyond S.Store S.atom_word search.entry.now place.now }
 {
     let limit = search.limit as usize;

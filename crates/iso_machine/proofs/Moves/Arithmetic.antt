@@ -170,6 +170,12 @@ module _ {S W M : Type 0} (g : Ghosts S W M) (atom_word : ℕ → W) (mid new : 
   thrown_goes fault.NoMemory place m throws = absurd (let none = throws.0 in cc)
 
   -- behind a fault as many steps are left
+  pub fault_choices : (f : Fault) (place : Option Rest) (result : Result Move StoreFault)
+      → Throws g (framed atom_word) mid f place result new → new.choices ≡ mid.choices
+  fault_choices (fault.Raise ball) place result throws = ap (λ (x : Engine S W M). x.choices) throws.2
+  fault_choices fault.Full place result throws = ap (λ (x : Engine S W M). x.choices) throws.1
+  fault_choices fault.NoMemory place result throws = ap (λ (x : Engine S W M). x.choices) throws.1
+
   pub fault_steps : (f : Fault) (place : Option Rest) (result : Result Move StoreFault)
       → Throws g (framed atom_word) mid f place result new → new.steps ≡ mid.steps
   fault_steps (fault.Raise ball) place result throws = ap (λ (x : Engine S W M). x.steps) throws.2
@@ -386,6 +392,18 @@ module _ {S W M : Type 0} (g : Ghosts S W M) (atom_word : ℕ → W) where
         raised.2 in
         value_raises g (framed atom_word) (own_open c s h) s (same_open c s h) (at_value c s h) (took c s h) new error raised.0
         (throws.3 _ on) (rw throws.1 tt)
+
+    -- the list that the ball is thrown past is ahead
+    pub raised_ahead : (ball : Ball) → answer ≡ Err (fault.Raise ball) → (s : State)
+        → Represents g (framed atom_word) e s
+        → (t : State) × IsAhead g (framed atom_word) mid t (Some (below r))
+    raised_ahead ball is s h =
+        let raised = raised_as (table c s h) ball (replies c s h (Err (fault.Raise ball)) is) in
+        let error = term_of ball.term.value in (
+          _,
+          value_unbound g (framed atom_word) (own_open c s h) s (same_open c s h) (at_value c s h) (took c s h) error raised.0
+              raised.2,
+        )
 
     refused_keeps : (s : State) → (h : Represents g (framed atom_word) e s)
         → Keeps g (framed atom_word) mid h.own.world h.own.stack

@@ -37,6 +37,8 @@ use Rattle.iso_search.proofs.Moves.Next.{value_called, value_refused}
 use Rattle.iso_search.proofs.Moves.Value.{IsAtValue}
 use Rattle.iso_machine.specs.declared.framed.Framed.{Framed}
 use Rattle.iso_machine.specs.Engines.{Engine, EngineClause, IsBeyond, framed}
+use Rattle.iso_machine.specs.Unpushed.{CallsFor}
+use Rattle.iso_machine.proofs.CameLemmas.{came_error}
 use Rattle.iso_machine.specs.GoalCalls.{AtCall, CallsPut, IsToCall, goal_put}
 use Rattle.iso_machine.specs.Lists.{IsPut, cost_at, extent_of, list_words, pending_at}
 use Rattle.iso_machine.proofs.AddedLemmas.{IsGrown, ahead_added, ahead_taken, store_grown}
@@ -213,3 +215,27 @@ module _ {S W M : Type 0} (g : Ghosts S W M) (atom_word : ℕ → W) where
         < whole_cost n (cost (framed atom_word) old)) whole
         (subst (λ (n : ℕ). whole_cost n (cost (framed atom_word) new)
         < whole_cost (suc (e.steps - 1)) (cost (framed atom_word) old)) (sym (steps ∙ taken)) falls)
+
+    -- what trying the clauses comes to, the call comes to
+    pub go_for : (mid : Engine S W M)
+        → ((t : State) → IsAhead g (framed atom_word) e t behind
+        → IsAhead g (framed atom_word) mid (record t { steps = e.steps - 1 }) behind)
+        → IsPut atom_word (g.present mid.store) mid.lists name (goal_put g atom_word e name)
+        → mid.steps ≡ e.steps - 1 → g.names mid.store ≡ g.names e.store → mid.db ≡ e.db
+        → kept_cost (framed atom_word) mid ≡ kept_cost (framed atom_word) e
+        → cost_at mid.lists behind ≡ cost_at e.lists behind → Stays g e mid
+        → CallsFor g atom_word old mid clause later name behind
+    go_for mid gives put steps names clauses costs place stays = record {
+      went = λ new by asked. record {
+        next = λ s r. go_went gives s r new
+            (by.tried _ _ _ _ _ (go_calls gives s r put steps names clauses)) by.awake;
+        stopped = λ s r. tt;
+        falls = go_falls mid new steps costs place by.steps by.costs;
+        full = λ none. absurd (cc);
+        stays = stays_on g h.put.stays (stays_on g stays by.stays);
+      };
+      stopped = λ new reason by.
+          came_error g atom_word reason
+          (λ s r. go_refused gives s r new (by.kept _ _ _ _ _ (go_calls gives s r put steps names clauses))) by.heap
+          (stays_on g h.put.stays (stays_on g stays by.stays));
+    }

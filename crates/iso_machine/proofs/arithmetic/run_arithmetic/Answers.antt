@@ -10,7 +10,12 @@ returns-then-search-eq0 g c =
 pub returns-in_err-compute : goal.returns-in_err-compute
 returns-in_err-compute g c =
     moved_refused g.S.Store g.S.Cells.atom_word c.from_residual.result _ c.from_residual.ensures.0
-    c.from_residual.ensures.1 c.in_err-compute.ensures.came
+    c.from_residual.ensures.1 (c.in_err-compute.ensures.came c.requires.stands.0 c.requires.stands.1)
 
 pub returns : goal.returns
-returns g c = moved_came g.S.Store g.S.Cells.atom_word c.in_ok-compute.ensures.came
+returns g c =
+    moved_came g.S.Store g.S.Cells.atom_word
+    (c.in_ok-compute.ensures.came c.requires.stands.0 c.requires.stands.1)
+
+pub compute-requires-clause-stands : goal.compute-requires-clause-stands
+compute-requires-clause-stands g c = (c.args.search.now.choices, c.requires.stands.0, c.requires.stands.1)

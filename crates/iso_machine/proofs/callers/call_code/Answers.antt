@@ -31,10 +31,11 @@ compute-requires-clause-more g c = λ none. absurd (omega (arith, c.if-search-ne
 pub returns-in_err-compute-in-Computes : goal.returns-in_err-compute-in-Computes
 returns-in_err-compute-in-Computes g c =
     call_not g.S.Store g.S.Cells.atom_word c.from_residual.result _ c.from_residual.ensures.0 c.from_residual.ensures.1
-    c.in_err-compute-in-Computes.ensures.came _
+    (c.in_err-compute-in-Computes.ensures.came c.requires.stands.0 c.requires.stands.1) _
 
 pub returns-in_ok-compute-in-Computes : goal.returns-in_ok-compute-in-Computes
-returns-in_ok-compute-in-Computes g c = c.in_ok-compute-in-Computes.ensures.came _
+returns-in_ok-compute-in-Computes g c =
+    c.in_ok-compute-in-Computes.ensures.came c.requires.stands.0 c.requires.stands.1 _
 
 pub cut_back-requires-clause-there : goal.cut_back-requires-clause-there
 cut_back-requires-clause-there g c =
@@ -57,3 +58,6 @@ returns-in_default g c =
       | in_default-via-in_default w ↦
           acts_other frames c.args.rest c.act_there.result acts w.in_default.not-Calls w.in_default.not-Cuts
     ]))
+
+pub compute-requires-clause-stands : goal.compute-requires-clause-stands
+compute-requires-clause-stands g c = (c.args.search.now.choices, c.requires.stands.0, c.requires.stands.1)

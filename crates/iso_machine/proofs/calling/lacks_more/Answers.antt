@@ -32,3 +32,21 @@ returns-clause-room g c = λ first s t k ks gs call calls none some.
     (c.has_left.ensures names calls.clauses.behind ks calls.clauses.gives are) in
     let many = ap length empty in
     omega (arith, some, many)
+
+pub returns-then-has_room-clause-few : goal.returns-then-has_room-clause-few
+returns-then-has_room-clause-few g c = λ first s t k ks gs call calls none some.
+    c.has_room.ensures.few c.if-has_room.true
+
+pub returns-then-has_left-clause-few : goal.returns-then-has_left-clause-few
+returns-then-has_left-clause-few g c = λ first s t k ks gs call calls none some. absurd (true≢false none)
+
+pub returns-clause-few : goal.returns-clause-few
+returns-clause-few g c = λ first s t k ks gs call calls none some.
+    let e = c.args.search.now in
+    let names = g.S.Store.names e.store in
+    let are = left_behind names e.db calls.clauses in
+    let empty : ks ≡ [] =
+    subst (λ b. MatchBool b (0 < length ks) (ks ≡ [])) c.if-has_left.false
+    (c.has_left.ensures names calls.clauses.behind ks calls.clauses.gives are) in
+    let many = ap length empty in
+    omega (arith, some, many)

@@ -39,22 +39,25 @@ pub compute-requires-clause-more : goal.compute-requires-clause-more
 compute-requires-clause-more g c = λ none. absurd (omega (arith, c.if-search-ne0.true, none))
 
 pub compute-requires-clause-stands : goal.compute-requires-clause-stands
-compute-requires-clause-stands g c = (let h = c.loop-rest.invariant in (h.state, h.stands))
+compute-requires-clause-stands g c =
+    (let h = c.loop-rest.invariant in (c.loop-rest.search.choices, h.state, h.stands))
 
 pub returns-in_err-compute-in-Computes-clause-came : goal.returns-in_err-compute-in-Computes-clause-came
 returns-in_err-compute-in-Computes-clause-came g c = λ old first.
     went_not g.S.Store g.S.Cells.atom_word c.from_residual-in_err-compute-in-Computes.result _ c.from_residual-in_err-compute-in-Computes.ensures.0
     c.from_residual-in_err-compute-in-Computes.ensures.1
     (refused_behind g.S.Store g.S.Cells.atom_word _ (c.loop-rest.invariant.behind old first)
-    c.in_err-compute-in-Computes.ensures.came)
+    (c.in_err-compute-in-Computes.ensures.came c.loop-rest.invariant.state c.loop-rest.invariant.stands))
 
 pub loop-rest-smaller-then-search-ne0 : goal.loop-rest-smaller-then-search-ne0
-loop-rest-smaller-then-search-ne0 g c = (c.in_ok-compute-in-Computes.ensures.came None).falls
+loop-rest-smaller-then-search-ne0 g c =
+    (let h = c.loop-rest.invariant in (c.in_ok-compute-in-Computes.ensures.came h.state h.stands None).falls)
 
 pub loop-rest-preserved-then-search-ne0 : goal.loop-rest-preserved-then-search-ne0
 loop-rest-preserved-then-search-ne0 g c =
     let fewer = c.in_ok-compute-in-Computes.ensures.steps in
-    behind_more g.S.Store g.S.Cells.atom_word c.loop-rest.invariant c.in_ok-compute-in-Computes.ensures.came
+    let h = c.loop-rest.invariant in
+    behind_more g.S.Store g.S.Cells.atom_word h (c.in_ok-compute-in-Computes.ensures.came h.state h.stands)
     (omega (arith, fewer))
 
 pub cut_back-requires-clause-now : goal.cut_back-requires-clause-now
