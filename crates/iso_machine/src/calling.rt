@@ -101,6 +101,8 @@ pub(crate) fn keep_arguments<S: Cells>(
     ensures many { IfOk result (λ c. length lists.new.words.items
         ≡ length lists.old.words.items + length lists.old.arguments.items) }
     ensures name { IfOk result (λ c. c.name ≡ name) }
+    ensures arguments { IfOk result (λ c. arguments_at lists.new c ≡ lists.old.arguments.items) }
+    ensures place { IfOk result (λ c. c.start + c.count ≡ length lists.new.words.items) }
     ensures same { lists.new ≡ record lists.old { words = lists.new.words } }
 {
     let start = lists.words.len();
@@ -154,6 +156,8 @@ pub(crate) fn enter_clause<S: Cells + Drop>(
         (with_choices search.new choices) clause put.now.name put.now.behind mark result }
     ensures alone { result ≡ Ok Gone.Last → last ≡ true }
     ensures entered { result ≢ Ok Gone.Full }
+    ensures arguments { search.new.lists.arguments ≡ search.old.lists.arguments }
+    ensures words { Adds search.old.lists.words.items search.new.lists.words.items }
     ensures awake { result ≡ Ok Gone.Went → IsAwake (phase_of search.new.now) }
     ensures heap { result ≡ Err StoreFault.Full → S.full search.new.store }
     ensures same { search.new ≡ record search.old {

@@ -6,7 +6,9 @@ ghost use Rattle.iso_search_core.specs.declared.nows.Now.TheVariants as now;
 ghost use Rattle.iso_search.specs.EngineStates.{Represents};
 ghost use Rattle.iso_search.specs.Retrying.{TriesNext};
 ghost use Rattle.iso_machine.specs.Came.{CameTo, went_on};
+ghost use Rattle.iso_plain_core.specs.Entering.{Adds};
 ghost use Rattle.iso_machine.specs.Engines.{Engine, framed};
+ghost use Rattle.iso_machine.specs.Lists.{arguments_at};
 ghost use Rattle.iso_machine.specs.Unpushed.{Choices, IsBack, with_choices};
 
 use super::calling::{Gone, enter_clause, take_arguments};
@@ -19,18 +21,19 @@ use iso_search::retries::Retry;
 use iso_search::search::Search;
 use iso_store_core::{Store, StoreFault};
 
-/// Enters this clause for a call that was kept, before the list from this place on, above so many choices: its arguments
-/// come back first. The errors: the store is full, or memory was refused.
+/// Enters this clause for a call that was kept, before the list from this place on, above so many choices. Its arguments
+/// are those that were put. The errors: the store is full, or memory was refused.
 #[inline(always)]
-pub(crate) fn retry<S: Cells + Drop>(
+pub(crate) fn enter_kept<S: Cells + Drop>(
     search: &mut Search<S, Framed<S>>,
     clause: ClauseId,
     call: KeptCall,
     behind: Option<Rest>,
     below: usize,
 ) -> Result<(), StoreFault>
-    requires { (choices : Choices S.Word S.Mark) × (later : KeyedView) × (old : Engine S S.Word S.Mark) × (s : State)
-        × Represents S.Store (framed S.atom_word) old s
+    requires arguments { search.old.lists.arguments.items ≡ arguments_at search.old.lists call }
+    requires back { (choices : Choices S.Word S.Mark) × (later : KeyedView) × (old : Engine S S.Word S.Mark)
+        × (s : State) × Represents S.Store (framed S.atom_word) old s
         × IsBack S.Store S.atom_word old (with_choices search.old choices)
         (record { clause = clause; later = later; call = call }) behind below }
     ensures came { (choices : Choices S.Word S.Mark) (later : KeyedView) (old : Engine S S.Word S.Mark) (s : State)
@@ -38,18 +41,42 @@ pub(crate) fn retry<S: Cells + Drop>(
         (record { clause = clause; later = later; call = call }) behind below
         → CameTo S.Store S.atom_word old (went_on result) (with_choices search.new choices) }
     ensures same { search.new.choices ≡ search.old.choices }
+    ensures arguments { search.new.lists.arguments ≡ search.old.lists.arguments }
+    ensures words { Adds search.old.lists.words.items search.new.lists.words.items }
     ensures steps { IfOk result (λ done. search.new.steps ≡ search.old.steps) }
 {
     let put = Put {
         name: call.name,
         behind,
     };
-    take_arguments(&mut search.lists, call)?;
     match enter_clause(search, clause, &put, below, false)? {
         Gone::Went => Ok(()),
         Gone::Full => unreachable!(),
         Gone::Last => unreachable!(),
     }
+}
+
+/// Enters the clause that was left, above so many choices: the arguments of its call come back first. The errors: the
+/// store is full, or memory was refused.
+#[inline(always)]
+fn retry_above<S: Cells + Drop>(
+    search: &mut Search<S, Framed<S>>,
+    retry: Retry<KeptCall, Option<Rest>>,
+    below: usize,
+) -> Result<(), StoreFault>
+    requires { (choices : Choices S.Word S.Mark) × (later : KeyedView) × (old : Engine S S.Word S.Mark) × (s : State)
+        × Represents S.Store (framed S.atom_word) old s
+        × IsBack S.Store S.atom_word old (with_choices search.old choices)
+        (record { clause = retry.clause; later = later; call = retry.call }) retry.rest below }
+    ensures came { (choices : Choices S.Word S.Mark) (later : KeyedView) (old : Engine S S.Word S.Mark) (s : State)
+        → Represents S.Store (framed S.atom_word) old s → IsBack S.Store S.atom_word old (with_choices search.old choices)
+        (record { clause = retry.clause; later = later; call = retry.call }) retry.rest below
+        → CameTo S.Store S.atom_word old (went_on result) (with_choices search.new choices) }
+    ensures same { search.new.choices ≡ search.old.choices }
+    ensures steps { IfOk result (λ done. search.new.steps ≡ search.old.steps) }
+{
+    take_arguments(&mut search.lists, retry.call)?;
+    enter_kept(search, retry.clause, retry.call, retry.rest, below)
 }
 
 /// Goes back to the newest choice, and enters the clause that it tries next. The errors: the store is full, or memory
@@ -67,5 +94,10 @@ pub(crate) fn try_next<S: Cells + Drop>(
 {
     let newest = search.go_back();
     let below = search.leave_choice(newest.mark);
-    self::retry(search, retry.clause, retry.call, newest.rest, below)
+    let again = Retry {
+        clause: retry.clause,
+        call: retry.call,
+        rest: newest.rest,
+    };
+    retry_above(search, again, below)
 }

@@ -21,7 +21,7 @@ ghost use Rattle.iso_machine.specs.Engines.{Engine, framed};
 ghost use Rattle.iso_machine.specs.GoalCalls.{CallsPut};
 ghost use Rattle.iso_machine.specs.Instructions.{CutsAs, IsInstructionThere};
 ghost use Rattle.iso_machine.specs.Lists.{cost_at};
-ghost use Rattle.iso_machine.specs.Unpushed.{CallsFor, Choices, HasPushed, IfPushed, IsBack, IsOpen, KeepsLater};
+ghost use Rattle.iso_machine.specs.Unpushed.{CallsFor, Choices, HasPushed, HoldsCall, IfPushed, IsBack, IsOpen, KeepsLater};
 ghost use Rattle.iso_machine.specs.Unpushed.{with_choices};
 
 use super::arithmetic::compute;
@@ -31,7 +31,7 @@ use super::control::height_at;
 use super::framed::{Extent, Framed, KeptCall};
 use super::goal_places::{Act, act_there};
 use super::goals::code_first;
-use super::retrying::retry;
+use super::retrying::enter_kept;
 use iso_cells::Cells;
 use iso_compile::Mark;
 use iso_db::{ClauseId, KeyedView};
@@ -74,7 +74,7 @@ fn keep_later<S: Cells + Drop>(
         (behind : List Member) → CallsPut S.Store S.atom_word search.old first later.old
         put.now.name put.now.behind s goal c cs behind
         → OnErr result (Remains S.Store (framed S.atom_word) search.new s) }
-    ensures name { IfOk result (λ u. u.call.name ≡ put.now.name) }
+    ensures holds { IfOk result (λ u. HoldsCall search.new.lists u) }
     ensures behind { cost_at search.new.lists put.now.behind ≡ cost_at search.old.lists put.now.behind }
     ensures same { search.new ≡ record search.old { store = search.new.store; lists = search.new.lists } }
     ensures stays { Stays S.Store search.old search.new }
@@ -195,10 +195,11 @@ fn go_to_next<S: Cells + Drop>(
         (record { clause = kept.clause; later = later.old; call = kept.call }) put.now.behind
         (length search.old.choices.items) }
     ensures falls { IfSome result (λ clause. remaining_keyed later.new < remaining_keyed later.old) }
+    ensures holds { HoldsCall search.old.lists kept → HoldsCall search.new.lists kept }
     ensures same { search.new ≡ record search.old { store = search.new.store; lists = search.new.lists } }
 {
     search.store.undo(kept.mark);
-    search.lists.go_back(kept.kept);
+    search.lists.cut_down(kept.kept);
     match next_left(&search.db, later) {
         Some(next) => Some(next),
         None => {
@@ -245,6 +246,7 @@ fn try_others<S: Cells + Drop>(
     put: &Put,
 ) -> Tried
     requires few { length search.old.choices.items < 2 ^ 32 }
+    requires holds { HoldsCall search.old.lists kept.old }
     requires came { (first : Engine S S.Word S.Mark) × (s : State) × Represents S.Store (framed S.atom_word) first s
         × IfPushed search.old kept.old later.old put.now.behind (CameTo S.Store S.atom_word first (Ok calls.Went)) }
     ensures entered { (first : Engine S S.Word S.Mark)
@@ -276,10 +278,10 @@ fn try_others<S: Cells + Drop>(
         };
         let clause = kept.clause;
         let Some(next) = go_to_next(search, later, *kept, put) else {
-            return Tried::Last(retry(search, clause, kept.call, put.behind, below));
+            return Tried::Last(enter_kept(search, clause, kept.call, put.behind, below));
         };
         kept.clause = next;
-        if let Err(fault) = retry(search, clause, kept.call, put.behind, below) {
+        if let Err(fault) = enter_kept(search, clause, kept.call, put.behind, below) {
             return Tried::Refused(fault);
         }
     }
@@ -296,6 +298,7 @@ fn settle<S: Cells + Drop>(
 ) -> Result<(), StoreFault>
     requires room { vec_len search.old.choices < vec_capacity search.old.choices }
     requires few { length search.old.choices.items < 2 ^ 32 }
+    requires holds { HoldsCall search.old.lists kept }
     requires came { (first : Engine S S.Word S.Mark) × (s : State) × Represents S.Store (framed S.atom_word) first s
         × IfPushed search.old kept later.old put.now.behind (CameTo S.Store S.atom_word first (Ok calls.Went)) }
     ensures came { (first : Engine S S.Word S.Mark)

@@ -18,6 +18,7 @@ use Rattle.iso_machine.specs.Engines.{Engine, framed}
 use Rattle.iso_machine.specs.Came.{CameTo}
 use Rattle.iso_machine.specs.GoalCalls.{CallsPut}
 use Rattle.iso_machine.specs.Unpushed.{CallsFor, Choices, HasPushed, IfPushed, choice_of, with_choices}
+use Rattle.iso_machine.proofs.Moves.Held.{held_on}
 use Rattle.iso_machine.proofs.Moves.Shallow.{choices_items, choices_with, has_tried, reserved_calls, reserved_for, was_stopped}
 use Rattle.iso_machine.proofs.Moves.Went.{went_not}
 use Rattle.iso_machine.specs.declared.calling.Gone.TheVariants as gone
@@ -264,3 +265,8 @@ pub unreachable-requires-in-Ok-Last : goal.unreachable-requires-in-Ok-Last
 unreachable-requires-in-Ok-Last g c =
     let last : c.enter_clause.result ≡ Ok gone.Last = search rules in
     absurd (false≢true (c.enter_clause.ensures.alone last))
+
+pub settle-requires-clause-holds : goal.settle-requires-clause-holds
+settle-requires-clause-holds g c =
+    held_on c.keep_later.new.search.lists c.enter_clause.new.search.lists c.in_ok-kept.kept
+    c.enter_clause.ensures.arguments c.in_ok-kept.ensures.holds c.enter_clause.ensures.words

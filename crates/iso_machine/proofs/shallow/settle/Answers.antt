@@ -26,3 +26,6 @@ returns-in-Refused-clause-came g c = λ first begun.
 pub returns-in-Last-clause-came : goal.returns-in-Last-clause-came
 returns-in-Last-clause-came g c = λ first begun.
     c.try_others.ensures.last first c.in-Last.done begun c.in-Last.is
+
+pub try_others-requires-clause-holds : goal.try_others-requires-clause-holds
+try_others-requires-clause-holds g c = c.requires.holds
