@@ -1,5 +1,5 @@
 -- The arguments that were put are those of a call that is kept, as words come and go.
-use Rattle.std.proofs.Common.{◌≡◌, ◌≤◌, ◌+◌, ℕ, List, length, take, drop, ap, sym, ◌∙◌, arith}
+use Rattle.std.proofs.Common.{◌≡◌, List, length, take, drop, ap, sym, ◌∙◌, arith}
 use Rattle.std.proofs.lemmas.List.{length-append, length-take-le}
 use Rattle.iso_plain_core.specs.Entering.{Adds}
 use Rattle.iso_machine.specs.declared.framed.Framed.{Framed}

@@ -68,13 +68,14 @@ pub loop-rest-preserved-in-Ok : goal.loop-rest-preserved-in-Ok
 loop-rest-preserved-in-Ok g c =
     let h = (goal.at.loop-rest-preserved-in-Ok g c).At-loop-rest in
     let r = c.requires.came in
-    let less = c.in-Ok.ensures.steps in
-    (    open_step g.S.Store (a g h) c.args.search.now (e g h) c.args.kept.now c.loop-rest.kept c.args.later.now
-    c.loop-rest.later c.args.put.now.behind c.loop-rest.invariant.0 r.0 r.1 r.2 r.3 c.compute.new.search
-    c.compute.ensures.same (omega (arith, less))
-    (λ choices t pushed stands. c.in-Ok.ensures.over choices t (choice g h, pushed) stands),
-    held_on c.loop-rest.search.lists c.compute.new.search.lists c.loop-rest.kept c.compute.ensures.arguments
-    c.loop-rest.invariant.1 (stacked_same c.compute.ensures.words))
+    let less = c.in-Ok.ensures.steps in (
+      open_step g.S.Store (a g h) c.args.search.now (e g h) c.args.kept.now c.loop-rest.kept c.args.later.now
+          c.loop-rest.later c.args.put.now.behind c.loop-rest.invariant.0 r.0 r.1 r.2 r.3 c.compute.new.search
+          c.compute.ensures.same (omega (arith, less))
+          (λ choices t pushed stands. c.in-Ok.ensures.over choices t (choice g h, pushed) stands),
+      held_on c.loop-rest.search.lists c.compute.new.search.lists c.loop-rest.kept c.compute.ensures.arguments
+          c.loop-rest.invariant.1 (stacked_same c.compute.ensures.words),
+    )
 
 pub returns-in-Err-clause-refused : goal.returns-in-Err-clause-refused
 returns-in-Err-clause-refused g c = λ first reason begun is choices pushed.
@@ -205,23 +206,24 @@ loop-rest-preserved g c =
     c.go_to_next.ensures.same in
     let steps = ap (λ (x : Engine g.row.S.Denot g.row.S-Word.Denot g.row.S-Mark.Denot). x.steps)
     c.go_to_next.ensures.same in
-    let on = c.in_default-enter_kept.ensures.steps in
-    (open_on g.S.Store (a g h) c.args.search.now (e g h) c.args.kept.now c.loop-rest.kept c.args.later.now
-    c.loop-rest.later c.args.put.now.behind c.loop-rest.invariant.0 r.0 r.1 r.2 r.3 (choices g h) (pushed g h) new after
-    c.go_to_next.new.later (c.enter_kept-in-loop-rest.ensures.same ∙ same) (omega (arith, steps, on))
-    (λ others again.
-    let there : HasPushed mid after c.go_to_next.new.later c.args.put.now.behind others =
-    again ∙ ap (λ (v : Choices g.row.S-Word.Denot g.row.S-Mark.Denot). v.items
-    ++ choice_of after c.go_to_next.new.later c.args.put.now.behind ∷ []) c.enter_kept-in-loop-rest.ensures.same in
-    c.in_default-enter_kept.ensures.came others c.loop-rest.later (with_choices (e g h) (choices g h)) t.0 t.1
-    (subst (λ (n : ℕ). IsBack g.S.Store (a g h) (with_choices (e g h) (choices g h)) (with_choices mid others)
-    (record { clause = c.loop-rest.kept.clause; later = c.loop-rest.later; call = c.loop-rest.kept.call })
-    c.args.put.now.behind n) (sym (many g h))
-    (c.go_to_next.ensures.next (choices g h) others t.0 c.in-Some-go_to_next.next (pushed g h) t.1
-    c.in-Some-go_to_next.is there))),
-    (let held = held_on mid.lists new.lists c.loop-rest.kept c.enter_kept-in-loop-rest.ensures.arguments
-    (c.go_to_next.ensures.holds c.loop-rest.invariant.1) c.enter_kept-in-loop-rest.ensures.words in
-    record { within = held.within; stood = held.stood; are = held.are }))
+    let on = c.in_default-enter_kept.ensures.steps in (
+      open_on g.S.Store (a g h) c.args.search.now (e g h) c.args.kept.now c.loop-rest.kept c.args.later.now
+          c.loop-rest.later c.args.put.now.behind c.loop-rest.invariant.0 r.0 r.1 r.2 r.3 (choices g h) (pushed g h) new after
+          c.go_to_next.new.later (c.enter_kept-in-loop-rest.ensures.same ∙ same) (omega (arith, steps, on))
+          (λ others again.
+          let there : HasPushed mid after c.go_to_next.new.later c.args.put.now.behind others =
+          again ∙ ap (λ (v : Choices g.row.S-Word.Denot g.row.S-Mark.Denot). v.items
+          ++ choice_of after c.go_to_next.new.later c.args.put.now.behind ∷ []) c.enter_kept-in-loop-rest.ensures.same in
+          c.in_default-enter_kept.ensures.came others c.loop-rest.later (with_choices (e g h) (choices g h)) t.0 t.1
+          (subst (λ (n : ℕ). IsBack g.S.Store (a g h) (with_choices (e g h) (choices g h)) (with_choices mid others)
+          (record { clause = c.loop-rest.kept.clause; later = c.loop-rest.later; call = c.loop-rest.kept.call })
+          c.args.put.now.behind n) (sym (many g h))
+          (c.go_to_next.ensures.next (choices g h) others t.0 c.in-Some-go_to_next.next (pushed g h) t.1
+          c.in-Some-go_to_next.is there))),
+      (let held = held_on mid.lists new.lists c.loop-rest.kept c.enter_kept-in-loop-rest.ensures.arguments
+          (c.go_to_next.ensures.holds c.loop-rest.invariant.1) c.enter_kept-in-loop-rest.ensures.words in
+          record { within = held.within; stood = held.stood; are = held.are }),
+    )
 
 pub enter_kept-requires-clause-arguments : goal.enter_kept-requires-clause-arguments
 enter_kept-requires-clause-arguments g c = sym (c.go_to_next.ensures.holds c.loop-rest.invariant.1).are
