@@ -21,7 +21,8 @@ use Rattle.iso_search.specs.Stays.{Stays}
 use Rattle.iso_search.specs.declared.calls.Next.{Next}
 use Rattle.iso_machine.specs.declared.framed.Framed.{Framed}
 use Rattle.iso_machine.specs.declared.framed.KeptCall.{KeptCall}
-use Rattle.iso_machine.specs.Came.{CameTo}
+use Rattle.iso_machine.specs.declared.calling.Gone.{Gone}
+use Rattle.iso_machine.specs.Came.{CameLast, CameTo}
 use Rattle.iso_machine.specs.Engines.{Engine, EngineClause, framed}
 use Rattle.iso_machine.specs.GoalCalls.{CallsPut}
 use Rattle.iso_machine.specs.Unpushed.{Again, Choices, IsBack, with_choices}
@@ -45,6 +46,13 @@ pub chosen : {S W M : Type 0} (g : Ghosts S W M) (atom_word : ℕ → W) {first 
     → CameTo g atom_word first result (with_choices new choices) → CameTo g atom_word first result new
 chosen {S = S} {W = W} {M = M} g atom_word {first = first} {new = new} {result = result} {choices = choices} same came =
     subst (λ (v : Choices W M). CameTo g atom_word first result (with_choices new v)) (sym same) came
+
+pub chosen_last : {S W M : Type 0} (g : Ghosts S W M) (atom_word : ℕ → W) (first new : Engine S W M)
+    (result : Result Gone StoreFault) (choices : Choices W M) (clause : ℕ) (behind : Option Rest)
+    → new.choices ≡ choices → CameLast g atom_word first result (with_choices new choices) clause behind
+    → CameLast g atom_word first result new clause behind
+chosen_last {S = S} {W = W} {M = M} g atom_word first new result choices clause behind same came =
+    subst (λ (v : Choices W M). CameLast g atom_word first result (with_choices new v) clause behind) (sym same) came
 
 -- ---- no clause is left behind the first
 

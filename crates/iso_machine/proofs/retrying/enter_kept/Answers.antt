@@ -6,12 +6,13 @@ use Rattle.iso_search.proofs.LimitLemmas.{stays_on}
 use Rattle.iso_search.proofs.Moves.Retry.{tries_on, stops_on}
 use Rattle.iso_search.proofs.WeightLemmas.{falls_less}
 use Rattle.iso_machine.specs.Engines.{Engine, framed}
+use Rattle.iso_machine.specs.LastCalls.{with_frame}
 use Rattle.iso_machine.specs.Unpushed.{with_choices}
 use Rattle.iso_machine.proofs.Moves.Unpushed.{stays_over}
-use Rattle.iso_machine.proofs.CameLemmas.{came_error}
+use Rattle.iso_machine.proofs.CameLemmas.{came_error, last_error}
 use Rattle.iso_machine.proofs.FrameLemmas.{stacked_same}
 use Rattle.iso_machine.proofs.Moves.Kept.{calls_again, kept_behind, kept_costs}
-use Rattle.iso_machine.proofs.Moves.Went.{went_not}
+use Rattle.iso_machine.proofs.Moves.Last.{stays_framed}
 use Rattle.iso_machine.proofs.retrying.enter_kept.Goals as goal
 
 pub enter_clause-requires : goal.enter_clause-requires
@@ -35,8 +36,8 @@ enter_clause-requires g c =
       ),
     )
 
-pub returns-clause-came : goal.returns-clause-came
-returns-clause-came g c = λ choices later old s0 r0 b asked. record {
+pub returns-in-Went-clause-came : goal.returns-in-Went-clause-came
+returns-in-Went-clause-came g c = λ choices later old s0 r0 b asked. record {
   next = λ s r.
       let l = framed g.S.Cells.atom_word in
       let mid = with_choices c.args.search.now choices in
@@ -80,9 +81,91 @@ returns-clause-came g c = λ choices later old s0 r0 b asked. record {
       stays_on g.S.Store b.stays (stays_over g.S.Store choices c.in_ok-enter_clause.ensures.stays);
 }
 
+pub returns-in-Last-clause-came : goal.returns-in-Last-clause-came
+returns-in-Last-clause-came g c = λ choices later old s0 r0 b.
+    let mid = with_choices c.args.search.now choices in
+    let rest = c.args.behind in
+    let first = b.again s0 r0 in
+    let u = first.retries in
+    let k = first.alternative in
+    let here = with_others u.call u.others k.list (went_back k first.below r0.own) in
+    let came = calls_again g.S.Store g.S.Cells.atom_word mid c.args.search.now.lists refl refl (stacked_same refl)
+    c.args.clause later rest here u.call u.clause u.others k.list c.args.call u.calls c.requires.arguments in
+    let entered = (c.in_ok-enter_clause.ensures.over choices).last here u.call u.clause u.others k.list later came
+    (ap Ok c.in-Last.is) in
+    let with = with_frame (with_choices c.enter_clause.new.search choices) entered.frames entered.rest in
+    record {
+      frames = entered.frames;
+      rest = entered.rest;
+      unframed = entered.unframed;
+      says = λ asked. record {
+      next = λ s r.
+          let l = framed g.S.Cells.atom_word in
+          let mid = with_choices c.args.search.now choices in
+          let rest = c.args.behind in
+          let again = b.again s r in
+          let t = again.retries in
+          let a = again.alternative in
+          let on = c.in_ok-enter_clause.ensures in
+          let there = with_others t.call t.others a.list (went_back a again.below r.own) in
+          let calls = calls_again g.S.Store g.S.Cells.atom_word mid c.args.search.now.lists refl refl (stacked_same refl)
+          c.args.clause later rest there t.call t.clause t.others a.list c.args.call t.calls
+          c.requires.arguments in
+          tries_on g.S.Store l old with (record { clause = c.args.clause; later = later; call = c.args.call }) rest s r a
+          again.below mid c.args.below b.failing again.stack t again.height
+          (entered.says.0 there t.call t.clause t.others a.list later calls) tt;
+        stopped = λ s r. tt;
+      falls =
+          let l = framed g.S.Cells.atom_word in
+          let mid = with_choices c.args.search.now choices in
+          let rest = c.args.behind in
+          let again = b.again s0 r0 in
+          let t = again.retries in
+          let a = again.alternative in
+          let lists = c.args.search.now.lists in
+          let on = c.in_ok-enter_clause.ensures in
+          let there = with_others t.call t.others a.list (went_back a again.below r0.own) in
+          let calls = calls_again g.S.Store g.S.Cells.atom_word mid lists refl refl (stacked_same refl) c.args.clause later
+          rest there t.call t.clause t.others a.list c.args.call t.calls c.requires.arguments in
+          let costs = entered.says.1 in
+          let kept = kept_costs g.S.Store g.S.Cells.atom_word mid lists refl refl (stacked_same refl) in
+          let behind = ap (λ (n : ℕ). body_cost most n)
+          (kept_behind g.S.Store g.S.Cells.atom_word mid lists refl refl (stacked_same refl) rest) in
+          let less = b.less in
+          let steps = ap (λ (x : Engine g.row.S.Denot g.row.S-Word.Denot g.row.S-Mark.Denot). x.steps) on.same in
+          falls_less l old with (steps ∙ b.steps)
+          (omega (arith, costs, kept, behind, less));
+        full = λ none. absurd (cc);
+        stays =
+            stays_framed g.S.Store
+            (stays_on g.S.Store b.stays (stays_over g.S.Store choices c.in_ok-enter_clause.ensures.stays));
+      };
+    }
+
+pub unreachable-requires : goal.unreachable-requires
+unreachable-requires g c = c.in_ok-enter_clause.ensures.entered (ap Ok c.in-Full.is)
+
+pub returns-in-Last-clause-alone : goal.returns-in-Last-clause-alone
+returns-in-Last-clause-alone g c = λ done. c.in_ok-enter_clause.ensures.alone (ap Ok c.in-Last.is)
+
+pub returns-in-Last-clause-same : goal.returns-in-Last-clause-same
+returns-in-Last-clause-same g c =
+    ap (λ (x : Engine g.row.S.Denot g.row.S-Word.Denot g.row.S-Mark.Denot). x.choices)
+    c.in_ok-enter_clause.ensures.same
+
+pub returns-in-Last-clause-steps : goal.returns-in-Last-clause-steps
+returns-in-Last-clause-steps g c =
+    ap (λ (x : Engine g.row.S.Denot g.row.S-Word.Denot g.row.S-Mark.Denot). x.steps)
+    c.in_ok-enter_clause.ensures.same
+
+pub returns-in_err-enter_clause-clause-steps : goal.returns-in_err-enter_clause-clause-steps
+returns-in_err-enter_clause-clause-steps g c =
+    ap (λ (x : Engine g.row.S.Denot g.row.S-Word.Denot g.row.S-Mark.Denot). x.steps)
+    c.in_err-enter_clause.ensures.same
+
 pub returns-in_err-enter_clause-clause-came : goal.returns-in_err-enter_clause-clause-came
 returns-in_err-enter_clause-clause-came g c = λ choices later old s0 r0 b.
-    went_not g.S.Store g.S.Cells.atom_word c.from_residual.result _
+    last_error g.S.Store g.S.Cells.atom_word _ _ c.from_residual.result _
     c.from_residual.ensures.0 c.from_residual.ensures.1
     (came_error g.S.Store g.S.Cells.atom_word _
     (λ s r.
@@ -103,8 +186,8 @@ returns-in_err-enter_clause-clause-came g c = λ choices later old s0 r0 b.
     (λ is. c.in_err-enter_clause.ensures.heap (ap Err is))
     (stays_on g.S.Store b.stays (stays_over g.S.Store choices c.in_err-enter_clause.ensures.stays)))
 
-pub returns-clause-same : goal.returns-clause-same
-returns-clause-same g c =
+pub returns-in-Went-clause-same : goal.returns-in-Went-clause-same
+returns-in-Went-clause-same g c =
     ap (λ (x : Engine g.row.S.Denot g.row.S-Word.Denot g.row.S-Mark.Denot). x.choices)
     c.in_ok-enter_clause.ensures.same
 
@@ -113,7 +196,7 @@ returns-in_err-enter_clause-clause-same g c =
     ap (λ (x : Engine g.row.S.Denot g.row.S-Word.Denot g.row.S-Mark.Denot). x.choices)
     c.in_err-enter_clause.ensures.same
 
-pub returns-clause-steps : goal.returns-clause-steps
-returns-clause-steps g c =
+pub returns-in-Went-clause-steps : goal.returns-in-Went-clause-steps
+returns-in-Went-clause-steps g c =
     ap (λ (x : Engine g.row.S.Denot g.row.S-Word.Denot g.row.S-Mark.Denot). x.steps)
     c.in_ok-enter_clause.ensures.same

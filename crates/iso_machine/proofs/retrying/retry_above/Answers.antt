@@ -67,7 +67,16 @@ enter_kept-requires-clause-back g c =
 
 pub returns-clause-came : goal.returns-clause-came
 returns-clause-came g c = λ choices later old s r b.
-    c.enter_kept.ensures.came choices later old s r
+    rw c.in-Went.is at (c.in_ok-enter_kept.ensures.came choices later old s r
     (back_taken g.S.Store g.S.Cells.atom_word old (with_choices c.args.search.now choices) c.take_arguments.new.lists
     (record { clause = c.args.retry.clause; later = later; call = c.args.retry.call }) c.args.retry.rest c.args.below
-    c.take_arguments.ensures.same b)
+    c.take_arguments.ensures.same b))
+
+pub returns-in_err-enter_kept-clause-came : goal.returns-in_err-enter_kept-clause-came
+returns-in_err-enter_kept-clause-came g c = λ choices later old s r b.
+    went_not g.S.Store g.S.Cells.atom_word c.from_residual-in_err-enter_kept.result _
+    c.from_residual-in_err-enter_kept.ensures.0 c.from_residual-in_err-enter_kept.ensures.1
+    (c.in_err-enter_kept.ensures.came choices later old s r
+    (back_taken g.S.Store g.S.Cells.atom_word old (with_choices c.args.search.now choices) c.take_arguments.new.lists
+    (record { clause = c.args.retry.clause; later = later; call = c.args.retry.call }) c.args.retry.rest c.args.below
+    c.take_arguments.ensures.same b))

@@ -1,4 +1,5 @@
-use Rattle.std.proofs.Common.{◌≡◌, ◌+◌, ◌<◌, ◌++◌, ◌∙◌, ℕ, [], ◌∷◌, length, Option, ap, sym, subst, Err, arith}
+use Rattle.std.proofs.Common.{rules, Ok, ◌≡◌, ◌+◌, ◌<◌, ◌++◌, ◌∙◌, ℕ, [], ◌∷◌, length, Option, ap, sym, subst, Err, arith}
+use Rattle.std.proofs.lemmas.Bool.{false≢true}
 use Rattle.iso_model.specs.Search.Walker.{State}
 use Rattle.iso_store_core.specs.declared.shapes.StoreFault.{StoreFault}
 use Rattle.iso_frames.specs.declared.frames.Rest.{Rest}
@@ -6,13 +7,14 @@ use Rattle.iso_search_core.specs.declared.choices.Choice.{Choice}
 use Rattle.iso_search.specs.EngineStates.{Represents}
 use Rattle.iso_machine.specs.declared.framed.Extent.{Extent}
 use Rattle.iso_machine.specs.declared.framed.KeptCall.{KeptCall}
-use Rattle.iso_machine.specs.Came.{CameTo, went_on}
+use Rattle.iso_machine.specs.declared.calling.Gone.TheVariants as gone
+use Rattle.iso_machine.specs.Came.{CameLast, CameTo}
 use Rattle.iso_machine.specs.Engines.{Engine, framed}
 use Rattle.iso_machine.specs.Unpushed.{Choices, HasPushed, IsBack, choice_of, with_choices}
 use Rattle.iso_machine.proofs.FrameLemmas.{stacked_same}
 use Rattle.iso_machine.proofs.Moves.Held.{held_on}
-use Rattle.iso_machine.proofs.Moves.Shallow.{choices_items, choices_with, open_end, open_on, open_stands, open_step}
-use Rattle.iso_machine.proofs.Moves.Unpushed.{chosen}
+use Rattle.iso_machine.proofs.Moves.Shallow.{choices_items, choices_with, open_end, open_last, open_on, open_stands, open_step}
+use Rattle.iso_machine.proofs.Moves.Unpushed.{chosen_last}
 use Rattle.iso_machine.proofs.shallow.try_others.Given.{Over}
 use Rattle.iso_machine.proofs.shallow.try_others.Goals.{At-loop-rest}
 use Rattle.iso_machine.proofs.shallow.try_others.Goals as goal
@@ -100,6 +102,7 @@ returns-in_default-now g c = record {
   last = λ first done begun is. absurd (cc is);
   same = c.loop-rest.invariant.0.same;
   fewer = λ is. c.loop-rest.invariant.0.steps;
+  alone = λ done is. absurd (cc is);
   fewest = λ done is. absurd (cc is);
 }
 
@@ -134,14 +137,17 @@ returns-in_default-go_to_next-clause-last g c = λ first done begun is.
     (record { clause = c.loop-rest.kept.clause; later = c.loop-rest.later; call = c.loop-rest.kept.call })
     c.args.put.now.behind n) (sym (many g h))
     (c.go_to_next.ensures.last (choices g h) t.0 (pushed g h) t.1 c.in_default-go_to_next.is) in
-    let came = chosen g.S.Store (a g h) c.enter_kept.ensures.same
+    let came = chosen_last g.S.Store (a g h) (with_choices (e g h) (choices g h)) c.enter_kept.new.search
+    c.enter_kept.result c.go_to_next.new.search.choices c.loop-rest.kept.clause c.args.put.now.behind
+    c.enter_kept.ensures.same
     (c.enter_kept.ensures.came c.go_to_next.new.search.choices c.loop-rest.later (with_choices (e g h) (choices g h)) t.0 t.1
     back) in
     let same : c.enter_kept.result ≡ done = cc in
-    subst (λ x. CameTo g.S.Store (a g h) first (went_on x) c.enter_kept.new.search) same
-    (open_end g.S.Store (a g h) c.args.search.now (e g h) c.args.kept.now c.loop-rest.kept c.args.later.now
+    subst (λ x. CameLast g.S.Store (a g h) first x c.enter_kept.new.search c.loop-rest.kept.clause
+    c.args.put.now.behind) same
+    (open_last g.S.Store (a g h) c.args.search.now (e g h) c.args.kept.now c.loop-rest.kept c.args.later.now
     c.loop-rest.later c.args.put.now.behind c.loop-rest.invariant.0 (choices g h) (pushed g h) c.enter_kept.result
-    c.enter_kept.new.search came first begun)
+    c.enter_kept.new.search c.loop-rest.kept.clause c.args.put.now.behind came first begun)
 
 -- ---- others are behind the next clause
 
@@ -206,7 +212,8 @@ loop-rest-preserved g c =
     c.go_to_next.ensures.same in
     let steps = ap (λ (x : Engine g.row.S.Denot g.row.S-Word.Denot g.row.S-Mark.Denot). x.steps)
     c.go_to_next.ensures.same in
-    let on = c.in_default-enter_kept.ensures.steps in (
+    let on = c.enter_kept-in-loop-rest.ensures.steps in
+    let went : c.enter_kept-in-loop-rest.result ≡ Ok gone.Went = search rules in (
       open_on g.S.Store (a g h) c.args.search.now (e g h) c.args.kept.now c.loop-rest.kept c.args.later.now
           c.loop-rest.later c.args.put.now.behind c.loop-rest.invariant.0 r.0 r.1 r.2 r.3 (choices g h) (pushed g h) new after
           c.go_to_next.new.later (c.enter_kept-in-loop-rest.ensures.same ∙ same) (omega (arith, steps, on))
@@ -214,13 +221,13 @@ loop-rest-preserved g c =
           let there : HasPushed mid after c.go_to_next.new.later c.args.put.now.behind others =
           again ∙ ap (λ (v : Choices g.row.S-Word.Denot g.row.S-Mark.Denot). v.items
           ++ choice_of after c.go_to_next.new.later c.args.put.now.behind ∷ []) c.enter_kept-in-loop-rest.ensures.same in
-          c.in_default-enter_kept.ensures.came others c.loop-rest.later (with_choices (e g h) (choices g h)) t.0 t.1
+          rw went at (c.enter_kept-in-loop-rest.ensures.came others c.loop-rest.later (with_choices (e g h) (choices g h)) t.0 t.1
           (subst (λ (n : ℕ). IsBack g.S.Store (a g h) (with_choices (e g h) (choices g h)) (with_choices mid others)
           (record { clause = c.loop-rest.kept.clause; later = c.loop-rest.later; call = c.loop-rest.kept.call })
           c.args.put.now.behind n) (sym (many g h))
           (c.go_to_next.ensures.next (choices g h) others t.0 c.in-Some-go_to_next.next (pushed g h) t.1
-          c.in-Some-go_to_next.is there))),
-      (let held = held_on mid.lists new.lists c.loop-rest.kept c.enter_kept-in-loop-rest.ensures.arguments
+          c.in-Some-go_to_next.is there)))),
+    (let held = held_on mid.lists new.lists c.loop-rest.kept c.enter_kept-in-loop-rest.ensures.arguments
           (c.go_to_next.ensures.holds c.loop-rest.invariant.1) c.enter_kept-in-loop-rest.ensures.words in
           record { within = held.within; stood = held.stood; are = held.are }),
     )
@@ -230,3 +237,13 @@ enter_kept-requires-clause-arguments g c = sym (c.go_to_next.ensures.holds c.loo
 
 pub enter_kept-requires-in-loop-rest-clause-arguments : goal.enter_kept-requires-in-loop-rest-clause-arguments
 enter_kept-requires-in-loop-rest-clause-arguments g c = sym (c.go_to_next.ensures.holds c.loop-rest.invariant.1).are
+
+pub unreachable-requires : goal.unreachable-requires
+unreachable-requires g c =
+    let full : c.enter_kept-in-loop-rest.result ≡ Ok gone.Full = search rules in
+    c.enter_kept-in-loop-rest.ensures.entered full
+
+pub unreachable-requires-in-Ok-Last : goal.unreachable-requires-in-Ok-Last
+unreachable-requires-in-Ok-Last g c =
+    let last : c.enter_kept-in-loop-rest.result ≡ Ok gone.Last = search rules in
+    absurd (false≢true (c.enter_kept-in-loop-rest.ensures.alone last))
