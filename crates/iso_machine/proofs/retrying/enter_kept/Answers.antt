@@ -99,42 +99,42 @@ returns-in-Last-clause-came g c = λ choices later old s0 r0 b.
       rest = entered.rest;
       unframed = entered.unframed;
       says = λ asked. record {
-      next = λ s r.
-          let l = framed g.S.Cells.atom_word in
-          let mid = with_choices c.args.search.now choices in
-          let rest = c.args.behind in
-          let again = b.again s r in
-          let t = again.retries in
-          let a = again.alternative in
-          let on = c.in_ok-enter_clause.ensures in
-          let there = with_others t.call t.others a.list (went_back a again.below r.own) in
-          let calls = calls_again g.S.Store g.S.Cells.atom_word mid c.args.search.now.lists refl refl (stacked_same refl)
-          c.args.clause later rest there t.call t.clause t.others a.list c.args.call t.calls
-          c.requires.arguments in
-          tries_on g.S.Store l old with (record { clause = c.args.clause; later = later; call = c.args.call }) rest s r a
-          again.below mid c.args.below b.failing again.stack t again.height
-          (entered.says.0 there t.call t.clause t.others a.list later calls) tt;
+        next = λ s r.
+            let l = framed g.S.Cells.atom_word in
+            let mid = with_choices c.args.search.now choices in
+            let rest = c.args.behind in
+            let again = b.again s r in
+            let t = again.retries in
+            let a = again.alternative in
+            let on = c.in_ok-enter_clause.ensures in
+            let there = with_others t.call t.others a.list (went_back a again.below r.own) in
+            let calls = calls_again g.S.Store g.S.Cells.atom_word mid c.args.search.now.lists refl refl (stacked_same refl)
+            c.args.clause later rest there t.call t.clause t.others a.list c.args.call t.calls
+            c.requires.arguments in
+            tries_on g.S.Store l old with (record { clause = c.args.clause; later = later; call = c.args.call }) rest s r a
+            again.below mid c.args.below b.failing again.stack t again.height
+            (entered.says.0 there t.call t.clause t.others a.list later calls) tt;
         stopped = λ s r. tt;
-      falls =
-          let l = framed g.S.Cells.atom_word in
-          let mid = with_choices c.args.search.now choices in
-          let rest = c.args.behind in
-          let again = b.again s0 r0 in
-          let t = again.retries in
-          let a = again.alternative in
-          let lists = c.args.search.now.lists in
-          let on = c.in_ok-enter_clause.ensures in
-          let there = with_others t.call t.others a.list (went_back a again.below r0.own) in
-          let calls = calls_again g.S.Store g.S.Cells.atom_word mid lists refl refl (stacked_same refl) c.args.clause later
-          rest there t.call t.clause t.others a.list c.args.call t.calls c.requires.arguments in
-          let costs = entered.says.1 in
-          let kept = kept_costs g.S.Store g.S.Cells.atom_word mid lists refl refl (stacked_same refl) in
-          let behind = ap (λ (n : ℕ). body_cost most n)
-          (kept_behind g.S.Store g.S.Cells.atom_word mid lists refl refl (stacked_same refl) rest) in
-          let less = b.less in
-          let steps = ap (λ (x : Engine g.row.S.Denot g.row.S-Word.Denot g.row.S-Mark.Denot). x.steps) on.same in
-          falls_less l old with (steps ∙ b.steps)
-          (omega (arith, costs, kept, behind, less));
+        falls =
+            let l = framed g.S.Cells.atom_word in
+            let mid = with_choices c.args.search.now choices in
+            let rest = c.args.behind in
+            let again = b.again s0 r0 in
+            let t = again.retries in
+            let a = again.alternative in
+            let lists = c.args.search.now.lists in
+            let on = c.in_ok-enter_clause.ensures in
+            let there = with_others t.call t.others a.list (went_back a again.below r0.own) in
+            let calls = calls_again g.S.Store g.S.Cells.atom_word mid lists refl refl (stacked_same refl) c.args.clause later
+            rest there t.call t.clause t.others a.list c.args.call t.calls c.requires.arguments in
+            let costs = entered.says.1 in
+            let kept = kept_costs g.S.Store g.S.Cells.atom_word mid lists refl refl (stacked_same refl) in
+            let behind = ap (λ (n : ℕ). body_cost most n)
+            (kept_behind g.S.Store g.S.Cells.atom_word mid lists refl refl (stacked_same refl) rest) in
+            let less = b.less in
+            let steps = ap (λ (x : Engine g.row.S.Denot g.row.S-Word.Denot g.row.S-Mark.Denot). x.steps) on.same in
+            falls_less l old with (steps ∙ b.steps)
+            (omega (arith, costs, kept, behind, less));
         full = λ none. absurd (cc);
         stays =
             stays_framed g.S.Store

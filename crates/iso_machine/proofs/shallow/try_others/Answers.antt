@@ -227,7 +227,7 @@ loop-rest-preserved g c =
           c.args.put.now.behind n) (sym (many g h))
           (c.go_to_next.ensures.next (choices g h) others t.0 c.in-Some-go_to_next.next (pushed g h) t.1
           c.in-Some-go_to_next.is there)))),
-    (let held = held_on mid.lists new.lists c.loop-rest.kept c.enter_kept-in-loop-rest.ensures.arguments
+      (let held = held_on mid.lists new.lists c.loop-rest.kept c.enter_kept-in-loop-rest.ensures.arguments
           (c.go_to_next.ensures.holds c.loop-rest.invariant.1) c.enter_kept-in-loop-rest.ensures.words in
           record { within = held.within; stood = held.stood; are = held.are }),
     )
