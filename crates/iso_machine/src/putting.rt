@@ -95,7 +95,10 @@ pub(crate) fn go<S: Cells + Drop>(
         return Ok(Gone::Full);
     }
     if has_left(&search.db, later) {
-        return call_with_later(search, clause, later, put, last);
+        let mut entered = *clause;
+        let gone = call_with_later(search, &mut entered, later, put, last)?;
+        *clause = entered;
+        return Ok(gone);
     }
     let mark = search.choices.len();
     match enter_clause(search, *clause, put, mark, last)? {

@@ -82,10 +82,19 @@ call_with_later-requires-clause-goes g c =
           ready.names ready.clauses ready.costs ready.behind ready.stays,
     )
 
+pub returns-in_err-gone-clause-came : goal.returns-in_err-gone-clause-came
+returns-in_err-gone-clause-came g c = λ old h.
+    let ready = c.make_ready.ensures in
+    last_error g.S.Store g.S.Cells.atom_word _ _ c.from_residual.result _ c.from_residual.ensures.0
+    c.from_residual.ensures.1
+    (c.in_err-gone.ensures.came old
+    (go_for g.S.Store g.S.Cells.atom_word h c.make_ready.new.search ready.ahead ready.put ready.steps ready.names
+    ready.clauses ready.costs ready.behind ready.stays))
+
 pub returns-then-has_left-clause-came : goal.returns-then-has_left-clause-came
 returns-then-has_left-clause-came g c = λ old h.
     let ready = c.make_ready.ensures in
-    c.call_with_later.ensures.came old
+    c.in_ok-gone.ensures.came old
     (go_for g.S.Store g.S.Cells.atom_word h c.make_ready.new.search ready.ahead ready.put ready.steps ready.names
     ready.clauses ready.costs ready.behind ready.stays)
 
@@ -103,8 +112,8 @@ returns-in_err-enter_clause-clause-came g c = λ old h.
     let ready = c.make_ready.ensures in
     let e = c.make_ready.new.search in
     let l = framed {S = g.row.S.Denot} {M = g.row.S-Mark.Denot} g.S.Cells.atom_word in
-    last_error g.S.Store g.S.Cells.atom_word _ _ c.from_residual.result _
-    c.from_residual.ensures.0 c.from_residual.ensures.1
+    last_error g.S.Store g.S.Cells.atom_word _ _ c.from_residual-in_err-enter_clause.result _
+    c.from_residual-in_err-enter_clause.ensures.0 c.from_residual-in_err-enter_clause.ensures.1
     (came_error g.S.Store g.S.Cells.atom_word _
     (λ s r.
     let t = go_calls g.S.Store g.S.Cells.atom_word h ready.ahead s r ready.put ready.steps ready.names ready.clauses in
