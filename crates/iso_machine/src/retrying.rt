@@ -21,9 +21,9 @@ use iso_search::retries::Retry;
 use iso_search::search::Search;
 use iso_store_core::{Store, StoreFault};
 
-/// Enters this clause for a call that was kept, before the list from this place on, above so many choices. Its arguments
-/// are those that were put. It makes no frame where it is said to be the last and its body is one goal of a procedure.
-/// The errors: the store is full, or memory was refused.
+/// Enters this clause for a call that was kept, before the list from this place on, above so many choices. The arguments
+/// of the call are those that were put. It makes no frame where it is said to be the last and its body is one goal of a
+/// procedure. The errors: the store is full, or memory was refused.
 #[inline(always)]
 pub(crate) fn enter_kept<S: Cells + Drop>(
     search: &mut Search<S, Framed<S>>,
@@ -39,7 +39,8 @@ pub(crate) fn enter_kept<S: Cells + Drop>(
         × IsBack S.Store S.atom_word old (with_choices search.old choices)
         (record { clause = clause; later = later; call = call }) behind below }
     ensures came { (choices : Choices S.Word S.Mark) (later : KeyedView) (old : Engine S S.Word S.Mark) (s : State)
-        → Represents S.Store (framed S.atom_word) old s → IsBack S.Store S.atom_word old (with_choices search.old choices)
+        → Represents S.Store (framed S.atom_word) old s
+        → IsBack S.Store S.atom_word old (with_choices search.old choices)
         (record { clause = clause; later = later; call = call }) behind below
         → CameLast S.Store S.atom_word old result (with_choices search.new choices) clause behind }
     ensures alone { result ≡ Ok Gone.Last → last ≡ true }
@@ -73,7 +74,8 @@ fn retry_above<S: Cells + Drop>(
         × IsBack S.Store S.atom_word old (with_choices search.old choices)
         (record { clause = retry.clause; later = later; call = retry.call }) retry.rest below }
     ensures came { (choices : Choices S.Word S.Mark) (later : KeyedView) (old : Engine S S.Word S.Mark) (s : State)
-        → Represents S.Store (framed S.atom_word) old s → IsBack S.Store S.atom_word old (with_choices search.old choices)
+        → Represents S.Store (framed S.atom_word) old s
+        → IsBack S.Store S.atom_word old (with_choices search.old choices)
         (record { clause = retry.clause; later = later; call = retry.call }) retry.rest below
         → CameTo S.Store S.atom_word old (went_on result) (with_choices search.new choices) }
     ensures same { search.new.choices ≡ search.old.choices }
