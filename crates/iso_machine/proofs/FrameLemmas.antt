@@ -67,13 +67,13 @@ run_pushed {W = W} p goal old new place are last holds =
 
 -- ---- words of a call, where others come and go
 
-part_taken : {X : Type 0} (m n k : ℕ) (xs : List X) → m + n ≤ k → take n (drop m (take k xs)) ≡ take n (drop m xs)
+pub part_taken : {X : Type 0} (m n k : ℕ) (xs : List X) → m + n ≤ k → take n (drop m (take k xs)) ≡ take n (drop m xs)
 part_taken zero n k xs less = take-take n k xs (omega (arith, less))
 part_taken (suc m) n zero xs less = absurd (omega (arith, less))
 part_taken (suc m) n (suc k) [] less = refl
 part_taken (suc m) n (suc k) (x ∷ xs) less = part_taken m n k xs (omega (arith, less))
 
-part_front : {X : Type 0} (m n : ℕ) (xs ys : List X) → m + n ≤ length xs
+pub part_front : {X : Type 0} (m n : ℕ) (xs ys : List X) → m + n ≤ length xs
     → take n (drop m (xs ++ ys)) ≡ take n (drop m xs)
 part_front {X = X} m n xs ys less =
     sym (part_taken m n (length xs) (xs ++ ys) less)

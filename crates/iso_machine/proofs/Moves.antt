@@ -6,6 +6,7 @@ pub mod Framed
 pub mod Given
 pub mod Go
 pub mod Goal
+pub mod Held
 pub mod Instruction
 pub mod Kept
 pub mod Last

@@ -19,6 +19,7 @@ use Rattle.iso_search.specs.declared.calls.Next.TheVariants as calls
 use Rattle.iso_search.specs.EngineStates.{Remains, Represents, Retries, StandsAs, WasRefused, cost, kept_cost, phase_of}
 use Rattle.iso_search.specs.Stays.{Stays}
 use Rattle.iso_machine.specs.declared.framed.Extent.{Extent}
+use Rattle.iso_machine.specs.declared.framed.Framed.{Framed}
 use Rattle.iso_machine.specs.declared.framed.KeptCall.{KeptCall}
 use Rattle.iso_machine.specs.declared.shallow.Unpushed.{Unpushed}
 use Rattle.iso_machine.specs.declared.calling.Gone.{Gone}
@@ -27,7 +28,7 @@ use Rattle.iso_machine.specs.Came.{CameTo}
 use Rattle.iso_machine.specs.Engines.{Engine, framed}
 use Rattle.iso_machine.specs.GoalCalls.{CallsPut}
 use Rattle.iso_machine.specs.LastCalls.{GoesLast}
-use Rattle.iso_machine.specs.Lists.{cost_at}
+use Rattle.iso_machine.specs.Lists.{arguments_at, cost_at}
 
 -- choices of the machine
 abbrev pub Choices : Type 0 → Type 0 → Type 0
@@ -49,6 +50,12 @@ with_choices e choices = record e { choices = choices }
 -- these are the engine's choices, and this one
 abbrev pub HasPushed : {S W M : Type 0} → Engine S W M → Unpushed M → KeyedView → Option Rest → Choices W M → Type 0
 HasPushed e u later rest choices = choices.items ≡ e.choices.items ++ choice_of u later rest ∷ []
+
+-- The arguments that were put are those of the call that is kept, below so much as was kept.
+pub record HoldsCall {S W M : Type 0} (l : Framed S W M) (u : Unpushed M) : Type 0 where
+  pub within : u.call.start + u.call.count ≤ u.kept.words
+  pub stood : u.kept.words ≤ length l.words.items
+  pub are : arguments_at l u.call ≡ l.arguments.items
 
 -- the engine with the choice that isn't pushed yet is this
 abbrev pub IfPushed : {S W M : Type 0} → Engine S W M → Unpushed M → KeyedView → Option Rest → (Engine S W M → Type 0)

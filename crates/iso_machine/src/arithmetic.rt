@@ -62,6 +62,8 @@ pub(crate) fn compute<S: Cells + Drop>(
         → CameTo S.Store S.atom_word (with_choices search.old choices) (went_on result)
         (with_choices search.new choices) }
     ensures same { search.new.choices ≡ search.old.choices }
+    ensures arguments { search.new.lists.arguments ≡ search.old.lists.arguments }
+    ensures words { search.new.lists.words ≡ search.old.lists.words }
     ensures steps { IfOk result (λ done. search.new.steps < search.old.steps) }
 {
     let answered = answer(
@@ -131,6 +133,7 @@ fn go_on_from<S: Cells + Drop>(
         → Represents S.Store (framed S.atom_word) e s
         → CameTo S.Store S.atom_word e (went_on result) (with_choices search.new choices) }
     ensures same { search.new.choices ≡ search.old.choices }
+    ensures lists { search.new.lists ≡ search.old.lists }
     ensures came { (e : _) (s : State) → HasComputed S.Store S.atom_word e search.old rest answered
         → Represents S.Store (framed S.atom_word) e s
         → CameTo S.Store S.atom_word e (went_on result) search.new }

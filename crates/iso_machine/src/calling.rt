@@ -101,6 +101,8 @@ pub(crate) fn keep_arguments<S: Cells>(
     ensures many { IfOk result (λ c. length lists.new.words.items
         ≡ length lists.old.words.items + length lists.old.arguments.items) }
     ensures name { IfOk result (λ c. c.name ≡ name) }
+    ensures arguments { IfOk result (λ c. arguments_at lists.new c ≡ lists.old.arguments.items) }
+    ensures place { IfOk result (λ c. c.start + c.count ≡ length lists.new.words.items) }
     ensures same { lists.new ≡ record lists.old { words = lists.new.words } }
 {
     let start = lists.words.len();
@@ -137,8 +139,8 @@ fn may_go_last<S: Cells + Drop>(search: &Search<S, Framed<S>>, last: bool) -> bo
 
 /// Enters the clause for the call of this name whose arguments were put, before the list from this place on, with this
 /// cut mark; where its head doesn't unify with the call the engine fails next (7.7.10). It makes no frame where it is
-/// said to be the last and its body is one goal of a procedure. Which choices stand is no matter. The errors: the store is
-/// full, or memory was refused.
+/// said to be the last and its body is one goal of a procedure. Which choices stand is no matter. The errors: the store
+/// is full, or memory was refused.
 #[inline(never)]
 pub(crate) fn enter_clause<S: Cells + Drop>(
     search: &mut Search<S, Framed<S>>,
@@ -147,13 +149,15 @@ pub(crate) fn enter_clause<S: Cells + Drop>(
     mark: usize,
     last: bool,
 ) -> Result<Gone, StoreFault>
-    requires { (choices : Choices S.Word S.Mark) × IsToEnter S.Store S.atom_word (with_choices search.old choices) clause
-        put.now.name put.now.behind }
+    requires { (choices : Choices S.Word S.Mark) × IsToEnter S.Store S.atom_word (with_choices search.old choices)
+        clause put.now.name put.now.behind }
     ensures itself { Entering S.Store S.atom_word search.old search.new clause put.now.name put.now.behind mark result }
     ensures over { (choices : Choices S.Word S.Mark) → Entering S.Store S.atom_word (with_choices search.old choices)
         (with_choices search.new choices) clause put.now.name put.now.behind mark result }
     ensures alone { result ≡ Ok Gone.Last → last ≡ true }
     ensures entered { result ≢ Ok Gone.Full }
+    ensures arguments { search.new.lists.arguments ≡ search.old.lists.arguments }
+    ensures words { Adds search.old.lists.words.items search.new.lists.words.items }
     ensures awake { result ≡ Ok Gone.Went → IsAwake (phase_of search.new.now) }
     ensures heap { result ≡ Err StoreFault.Full → S.full search.new.store }
     ensures same { search.new ≡ record search.old {

@@ -163,6 +163,7 @@ pub(crate) fn enter<S: Cells>(
         → Begins S.atom_word (S.present store.old) (S.present store.new) goal c mark ms (with_frames lists.new fs)
         (Some (place_of lists.new)) }
     ensures nodes { lists.new.nodes ≡ lists.old.nodes }
+    ensures arguments { lists.new.arguments ≡ lists.old.arguments }
     ensures frames { Adds lists.old.frames.items lists.new.frames.items }
     ensures words { Adds lists.old.words.items lists.new.words.items }
     ensures full { result ≡ Err StoreFault.Full → S.full store.new }

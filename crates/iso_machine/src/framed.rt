@@ -1,5 +1,5 @@
 //! Lists of goals as frames over environments, and members over bodies that were placed.
-ghost use Rattle.std.specs.Prelude.{◌≡◌, ◌≤◌, ◌+◌, ℕ, List, [], ◌∷◌, IfOk, IfSome, length, true};
+ghost use Rattle.std.specs.Prelude.{◌≡◌, ◌≤◌, ◌+◌, ℕ, List, [], ◌∷◌, IfOk, IfSome, length, take, true};
 ghost use Rattle.iso_model.specs.Search.Bodies.{Body, Run};
 ghost use Rattle.iso_model.specs.Search.Walker.{Member};
 ghost use Rattle.iso_store_core.specs.Presents.{Present};
@@ -166,6 +166,27 @@ impl<S: Cells> Framed<S> {
     }
 }
 
+impl<S: Cells> Framed<S> {
+    /// Cuts nodes, frames and words down to so many; no more than stand.
+    #[inline(always)]
+    pub(crate) fn cut_down(&mut self, kept: Extent)
+        requires { IsNoMore kept (extent_of self.old) }
+        ensures nodes { self.new.nodes.items ≡ take kept.nodes self.old.nodes.items }
+        ensures frames { self.new.frames.items ≡ take kept.frames self.old.frames.items }
+        ensures words { self.new.words.items ≡ take kept.words self.old.words.items }
+        ensures extent { extent_of self.new ≡ kept }
+        ensures same { self.new ≡ record self.old {
+          nodes = self.new.nodes;
+          frames = self.new.frames;
+          words = self.new.words;
+        } }
+    {
+        self.nodes.truncate(kept.nodes);
+        self.frames.truncate(kept.frames);
+        self.words.truncate(kept.words);
+    }
+}
+
 impl<S: Cells> Lists<S> for Framed<S> {
     type Kept = Extent;
 
@@ -235,9 +256,7 @@ impl<S: Cells> Lists<S> for Framed<S> {
     }
 
     fn go_back(&mut self, kept: Extent) {
-        self.nodes.truncate(kept.nodes);
-        self.frames.truncate(kept.frames);
-        self.words.truncate(kept.words);
+        self.cut_down(kept);
     }
 
     fn clear(&mut self) {

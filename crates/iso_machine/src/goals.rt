@@ -99,7 +99,8 @@ fn go_word<S: Cells + Drop>(
     let lists = &mut search.lists;
     read_goal(&search.store, goal, &mut lists.made, &mut lists.arguments)?;
     let put = Put { name, behind };
-    match go(search, clause, later, &put, false)? {
+    let mut clause = clause;
+    match go(search, &mut clause, later, &put, false)? {
         Gone::Went => Ok(Next::Went),
         Gone::Full => Ok(Next::Full),
         Gone::Last => unreachable!(),
@@ -286,11 +287,11 @@ pub(crate) fn call_goal<S: Cells + Drop>(
         }
         later.clear();
         let called = called_put(search, put.name, &mut later);
-        let clause = match called {
+        let mut clause = match called {
             Called::User(clause) if search.steps != 0 => clause,
             _ => return leave_goal(search, put, called, went, asked),
         };
-        match go(search, clause, &mut later, &put, true)? {
+        match go(search, &mut clause, &mut later, &put, true)? {
             Gone::Went => match go_to_call(search)? {
                 Some(rest) => place = GoalPlace::There(rest),
                 None => return Ok(Next::Went),

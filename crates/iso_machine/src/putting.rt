@@ -70,35 +70,38 @@ fn make_ready<S: Cells + Drop>(search: &mut Search<S, Framed<S>>, name: Atom, be
     give_up(search, behind);
 }
 
-/// Makes the call of the goal whose arguments were put: this clause is entered, without a frame where it is said to be
-/// the last and its body is one goal of a procedure. The errors: the store is full, or memory was refused.
+/// Makes the call of the goal whose arguments were put: this clause is entered, or one of those behind it, which it is
+/// then. Where that may be so, and no clause is left behind it, it is without a frame where its body is one goal of a
+/// procedure. The errors: the store is full, or memory was refused.
 #[inline(always)]
 pub(crate) fn go<S: Cells + Drop>(
     search: &mut Search<S, Framed<S>>,
-    clause: ClauseId,
+    clause: &mut ClauseId,
     later: &mut KeyedView,
     put: &Put,
     last: bool,
 ) -> Result<Gone, StoreFault>
     requires { (old : Engine S S.Word S.Mark) × (s : State) × Represents S.Store (framed S.atom_word) old s
-        × IsToCall S.Store S.atom_word old search.old clause later.old put.now.name put.now.behind }
+        × IsToCall S.Store S.atom_word old search.old clause.old later.old put.now.name put.now.behind }
     ensures came { (old : Engine S S.Word S.Mark)
-        → IsToCall S.Store S.atom_word old search.old clause later.old put.now.name put.now.behind
-        → CameLast S.Store S.atom_word old result search.new clause put.now.behind }
+        → IsToCall S.Store S.atom_word old search.old clause.old later.old put.now.name put.now.behind
+        → CameLast S.Store S.atom_word old result search.new clause.new put.now.behind }
     ensures alone { result ≡ Ok Gone.Last → last ≡ true }
     ensures steps { IfOk result (λ gone. search.new.steps < search.old.steps) }
 {
     make_ready(search, put.name, put.behind);
-    if lacks_room(search, clause, later, put, last) {
+    if lacks_room(search, *clause, later, put, last) {
         search.now = Now::Spent(Limit::Frames);
         return Ok(Gone::Full);
     }
     if has_left(&search.db, later) {
-        call_with_later(search, clause, later, put)?;
-        return Ok(Gone::Went);
+        let mut entered = *clause;
+        let gone = call_with_later(search, &mut entered, later, put, last)?;
+        *clause = entered;
+        return Ok(gone);
     }
     let mark = search.choices.len();
-    match enter_clause(search, clause, put, mark, last)? {
+    match enter_clause(search, *clause, put, mark, last)? {
         Gone::Went => Ok(Gone::Went),
         Gone::Full => unreachable!(),
         Gone::Last => Ok(Gone::Last),

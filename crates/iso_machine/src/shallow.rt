@@ -1,6 +1,6 @@
 //! Calls with clauses left behind the first: where that cuts at once, no choice is pushed for them (7.8.4).
 ghost use Rattle.std.specs.Prelude.{◌≡◌, ◌≢◌, ◌<◌, ◌≤◌, ◌+◌, ◌^◌, ℕ, List, Err, IfOk, IfSome, None, Ok, OnErr, Some};
-ghost use Rattle.std.specs.Prelude.{Option, Result, length, vec_capacity, vec_len};
+ghost use Rattle.std.specs.Prelude.{Option, Result, length, true, vec_capacity, vec_len};
 ghost use Rattle.iso_model.specs.Terms.Trees.{Tree};
 ghost use Rattle.iso_model.specs.Search.Databases as databases;
 ghost use Rattle.iso_model.specs.Search.Walker.{State, Member};
@@ -16,12 +16,12 @@ ghost use Rattle.iso_search_core.specs.declared.nows.Now.TheVariants as now;
 ghost use Rattle.iso_search.specs.declared.calls.Next.TheVariants as calls;
 ghost use Rattle.iso_search.specs.EngineStates.{IsEngine, Remains, Represents};
 ghost use Rattle.iso_search.specs.Stays.{Stays};
-ghost use Rattle.iso_machine.specs.Came.{CameTo, went_on};
+ghost use Rattle.iso_machine.specs.Came.{CameLast, CameTo};
 ghost use Rattle.iso_machine.specs.Engines.{Engine, framed};
 ghost use Rattle.iso_machine.specs.GoalCalls.{CallsPut};
 ghost use Rattle.iso_machine.specs.Instructions.{CutsAs, IsInstructionThere};
 ghost use Rattle.iso_machine.specs.Lists.{cost_at};
-ghost use Rattle.iso_machine.specs.Unpushed.{CallsFor, Choices, HasPushed, IfPushed, IsBack, IsOpen, KeepsLater};
+ghost use Rattle.iso_machine.specs.Unpushed.{CallsFor, Choices, HasPushed, HoldsCall, IfPushed, IsBack, IsOpen, KeepsLater};
 ghost use Rattle.iso_machine.specs.Unpushed.{with_choices};
 
 use super::arithmetic::compute;
@@ -31,7 +31,7 @@ use super::control::height_at;
 use super::framed::{Extent, Framed, KeptCall};
 use super::goal_places::{Act, act_there};
 use super::goals::code_first;
-use super::retrying::retry;
+use super::retrying::enter_kept;
 use iso_cells::Cells;
 use iso_compile::Mark;
 use iso_db::{ClauseId, KeyedView};
@@ -74,7 +74,7 @@ fn keep_later<S: Cells + Drop>(
         (behind : List Member) → CallsPut S.Store S.atom_word search.old first later.old
         put.now.name put.now.behind s goal c cs behind
         → OnErr result (Remains S.Store (framed S.atom_word) search.new s) }
-    ensures name { IfOk result (λ u. u.call.name ≡ put.now.name) }
+    ensures holds { IfOk result (λ u. HoldsCall search.new.lists u) }
     ensures behind { cost_at search.new.lists put.now.behind ≡ cost_at search.old.lists put.now.behind }
     ensures same { search.new ≡ record search.old { store = search.new.store; lists = search.new.lists } }
     ensures stays { Stays S.Store search.old search.new }
@@ -195,10 +195,11 @@ fn go_to_next<S: Cells + Drop>(
         (record { clause = kept.clause; later = later.old; call = kept.call }) put.now.behind
         (length search.old.choices.items) }
     ensures falls { IfSome result (λ clause. remaining_keyed later.new < remaining_keyed later.old) }
+    ensures holds { HoldsCall search.old.lists kept → HoldsCall search.new.lists kept }
     ensures same { search.new ≡ record search.old { store = search.new.store; lists = search.new.lists } }
 {
     search.store.undo(kept.mark);
-    search.lists.go_back(kept.kept);
+    search.lists.cut_down(kept.kept);
     match next_left(&search.db, later) {
         Some(next) => Some(next),
         None => {
@@ -232,19 +233,23 @@ enum Tried {
     /// Others are left, and what was tried was refused.
     Refused(StoreFault),
     /// The last one was tried.
-    Last(Result<(), StoreFault>),
+    Last(Result<Gone, StoreFault>),
 }
 
-/// Tries the clauses that are left, one after another, as long as the engine fails. Arithmetic that comes
-/// first is done, where a step is left.
+/// Tries the clauses that are left, one after another, as long as the engine fails; the number is that of the one that
+/// was tried last. Arithmetic that comes first is done, where a step is left. The last one of all makes no frame where
+/// that may be so and its body is one goal of a procedure.
 #[inline(always)]
 fn try_others<S: Cells + Drop>(
     search: &mut Search<S, Framed<S>>,
+    clause: &mut ClauseId,
     later: &mut KeyedView,
     kept: &mut Unpushed<S::Mark>,
     put: &Put,
+    last: bool,
 ) -> Tried
     requires few { length search.old.choices.items < 2 ^ 32 }
+    requires holds { HoldsCall search.old.lists kept.old }
     requires came { (first : Engine S S.Word S.Mark) × (s : State) × Represents S.Store (framed S.atom_word) first s
         × IfPushed search.old kept.old later.old put.now.behind (CameTo S.Store S.atom_word first (Ok calls.Went)) }
     ensures entered { (first : Engine S S.Word S.Mark)
@@ -255,13 +260,15 @@ fn try_others<S: Cells + Drop>(
         → IfPushed search.old kept.old later.old put.now.behind (CameTo S.Store S.atom_word first (Ok calls.Went))
         → result ≡ Tried.Refused fault
         → IfPushed search.new kept.new later.new put.now.behind (CameTo S.Store S.atom_word first (Err fault)) }
-    ensures last { (first : Engine S S.Word S.Mark) (done : Result _ StoreFault)
+    ensures last { (first : Engine S S.Word S.Mark) (done : Result Gone StoreFault)
         → IfPushed search.old kept.old later.old put.now.behind (CameTo S.Store S.atom_word first (Ok calls.Went))
-        → result ≡ Tried.Last done → CameTo S.Store S.atom_word first (went_on done) search.new }
+        → result ≡ Tried.Last done
+        → CameLast S.Store S.atom_word first done search.new clause.new put.now.behind }
+    ensures alone { (done : Result Gone StoreFault) → result ≡ Tried.Last done → done ≡ Ok Gone.Last → last ≡ true }
     ensures same { search.new.choices ≡ search.old.choices }
     ensures fewer { result ≡ Tried.Entered → search.new.steps ≤ search.old.steps }
-    ensures fewest { (done : Result _ StoreFault) → result ≡ Tried.Last done
-        → IfOk done (λ d. search.new.steps ≤ search.old.steps) }
+    ensures fewest { (done : Result Gone StoreFault) → result ≡ Tried.Last done
+        → search.new.steps ≤ search.old.steps }
 {
     let below = search.choices.len();
     loop {
@@ -274,13 +281,16 @@ fn try_others<S: Cells + Drop>(
         let Now::Failing = search.now else {
             return Tried::Entered;
         };
-        let clause = kept.clause;
+        *clause = kept.clause;
         let Some(next) = go_to_next(search, later, *kept, put) else {
-            return Tried::Last(retry(search, clause, kept.call, put.behind, below));
+            return Tried::Last(enter_kept(search, *clause, kept.call, put.behind, below, last));
         };
         kept.clause = next;
-        if let Err(fault) = retry(search, clause, kept.call, put.behind, below) {
-            return Tried::Refused(fault);
+        match enter_kept(search, *clause, kept.call, put.behind, below, false) {
+            Ok(Gone::Went) => continue,
+            Ok(Gone::Full) => unreachable!(),
+            Ok(Gone::Last) => unreachable!(),
+            Err(fault) => return Tried::Refused(fault),
         }
     }
 }
@@ -290,24 +300,28 @@ fn try_others<S: Cells + Drop>(
 #[inline(always)]
 fn settle<S: Cells + Drop>(
     search: &mut Search<S, Framed<S>>,
+    clause: &mut ClauseId,
     later: &mut KeyedView,
     kept: Unpushed<S::Mark>,
     put: &Put,
-) -> Result<(), StoreFault>
+    last: bool,
+) -> Result<Gone, StoreFault>
     requires room { vec_len search.old.choices < vec_capacity search.old.choices }
     requires few { length search.old.choices.items < 2 ^ 32 }
+    requires holds { HoldsCall search.old.lists kept }
     requires came { (first : Engine S S.Word S.Mark) × (s : State) × Represents S.Store (framed S.atom_word) first s
         × IfPushed search.old kept later.old put.now.behind (CameTo S.Store S.atom_word first (Ok calls.Went)) }
     ensures came { (first : Engine S S.Word S.Mark)
         → IfPushed search.old kept later.old put.now.behind (CameTo S.Store S.atom_word first (Ok calls.Went))
-        → CameTo S.Store S.atom_word first (went_on result) search.new }
+        → CameLast S.Store S.atom_word first result search.new clause.new put.now.behind }
+    ensures alone { result ≡ Ok Gone.Last → last ≡ true }
     ensures steps { IfOk result (λ done. search.new.steps ≤ search.old.steps) }
 {
     let mut kept = kept;
-    match try_others(search, later, &mut kept, put) {
+    match try_others(search, clause, later, &mut kept, put, last) {
         Tried::Entered => {
             cut_or_push(search, kept, later, put);
-            Ok(())
+            Ok(Gone::Went)
         }
         Tried::Refused(fault) => {
             push_kept(search, kept, later, put);
@@ -323,27 +337,29 @@ fn settle<S: Cells + Drop>(
 #[inline(never)]
 pub(crate) fn call_with_later<S: Cells + Drop>(
     search: &mut Search<S, Framed<S>>,
-    clause: ClauseId,
+    clause: &mut ClauseId,
     later: &mut KeyedView,
     put: &Put,
-) -> Result<(), StoreFault>
+    last: bool,
+) -> Result<Gone, StoreFault>
     requires calls { (s : State) × (goal : Tree) × (c : databases.Clause) × (cs : List databases.Clause)
-        × (behind : List Member) × CallsPut S.Store S.atom_word search.old clause later.old
+        × (behind : List Member) × CallsPut S.Store S.atom_word search.old clause.old later.old
         put.now.name put.now.behind s goal c cs behind × (0 < length cs) }
     requires room { length search.old.choices.items < search.old.limit }
     requires few { length search.old.choices.items < 2 ^ 32 }
     requires goes { (first : Engine S S.Word S.Mark) × (s : State) × Represents S.Store (framed S.atom_word) first s
-        × CallsFor S.Store S.atom_word first search.old clause later.old put.now.name put.now.behind }
+        × CallsFor S.Store S.atom_word first search.old clause.old later.old put.now.name put.now.behind }
     ensures came { (first : Engine S S.Word S.Mark)
-        → CallsFor S.Store S.atom_word first search.old clause later.old put.now.name put.now.behind
-        → CameTo S.Store S.atom_word first (went_on result) search.new }
+        → CallsFor S.Store S.atom_word first search.old clause.old later.old put.now.name put.now.behind
+        → CameLast S.Store S.atom_word first result search.new clause.new put.now.behind }
+    ensures alone { result ≡ Ok Gone.Last → last ≡ true }
     ensures steps { IfOk result (λ done. search.new.steps ≤ search.old.steps) }
 {
     search.choices.reserve(1)?;
     let kept = keep_later(search, later, put)?;
     let below = search.choices.len();
-    match enter_clause(search, clause, put, below, false) {
-        Ok(Gone::Went) => settle(search, later, kept, put),
+    match enter_clause(search, *clause, put, below, false) {
+        Ok(Gone::Went) => settle(search, clause, later, kept, put, last),
         Ok(Gone::Full) => unreachable!(),
         Ok(Gone::Last) => unreachable!(),
         Err(fault) => {

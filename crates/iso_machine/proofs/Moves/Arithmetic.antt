@@ -176,6 +176,12 @@ module _ {S W M : Type 0} (g : Ghosts S W M) (atom_word : ℕ → W) (mid new : 
   fault_choices fault.Full place result throws = ap (λ (x : Engine S W M). x.choices) throws.1
   fault_choices fault.NoMemory place result throws = ap (λ (x : Engine S W M). x.choices) throws.1
 
+  pub fault_lists : (f : Fault) (place : Option Rest) (result : Result Move StoreFault)
+      → Throws g (framed atom_word) mid f place result new → new.lists ≡ mid.lists
+  fault_lists (fault.Raise ball) place result throws = ap (λ (x : Engine S W M). x.lists) throws.2
+  fault_lists fault.Full place result throws = ap (λ (x : Engine S W M). x.lists) throws.1
+  fault_lists fault.NoMemory place result throws = ap (λ (x : Engine S W M). x.lists) throws.1
+
   pub fault_steps : (f : Fault) (place : Option Rest) (result : Result Move StoreFault)
       → Throws g (framed atom_word) mid f place result new → new.steps ≡ mid.steps
   fault_steps (fault.Raise ball) place result throws = ap (λ (x : Engine S W M). x.steps) throws.2

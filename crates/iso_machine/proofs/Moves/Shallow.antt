@@ -65,7 +65,8 @@ use Rattle.iso_machine.specs.declared.calling.Gone.TheVariants as gone
 use Rattle.iso_machine.specs.Engines.{Engine, EngineClause, framed}
 use Rattle.iso_machine.specs.GoalCalls.{CallsPut}
 use Rattle.iso_machine.specs.Instructions.{CutsAs, IsInstructionThere}
-use Rattle.iso_machine.specs.Came.{CameTo, went_on}
+use Rattle.iso_machine.specs.Came.{CameLast, CameTo, went_on}
+use Rattle.iso_machine.specs.LastCalls.{with_frame}
 use Rattle.iso_machine.specs.Lists.{IsFor, IsList, as_much, cost_at, extent_of, pending_at}
 use Rattle.iso_machine.specs.Unpushed.{CallsFor, Choices, Entering, HasPushed, HasTried, IfPushed, IsBack, IsOpen, KeepsLater, WasStopped, choice_of, with_choices}
 use Rattle.iso_machine.proofs.CameLemmas.{came_on}
@@ -554,6 +555,24 @@ module _ {S W M : Type 0} (g : Ghosts S W M) (atom_word : ℕ → W) where
         came_on g atom_word (Ok calls.Went) (opened.behind first begin choices pushed) (came asked)
     open_end choices pushed (Err reason) new came first begin asked =
         came_on g atom_word (Err reason) (opened.behind first begin choices pushed) (came asked)
+
+    pub open_last : (choices : Choices W M) → HasPushed e u later rest choices → (done : Result Gone StoreFault)
+        → (new : Engine S W M) (clause : ℕ) (place : Option Rest)
+        → CameLast g atom_word (with_choices e choices) done new clause place → (first : Engine S W M)
+        → IfPushed start before began rest (CameTo g atom_word first (Ok calls.Went))
+        → CameLast g atom_word first done new clause place
+    open_last choices pushed (Ok gone.Went) new clause place came first begin =
+        open_end {T = ℕ} choices pushed (Ok 0) new came first begin
+    open_last choices pushed (Ok gone.Full) new clause place came first begin =
+        λ asked. came_on g atom_word (Ok calls.Full) (opened.behind first begin choices pushed) (came asked)
+    open_last choices pushed (Ok gone.Last) new clause place came first begin = record {
+      frames = came.frames;
+      rest = came.rest;
+      unframed = came.unframed;
+      says = open_end {T = ℕ} choices pushed (Ok 0) (with_frame new came.frames came.rest) came.says first begin;
+    }
+    open_last choices pushed (Err reason) new clause place came first begin =
+        open_end {T = ℕ} choices pushed (Err reason) new came first begin
 
     module _ (first : Engine S W M) (s : State) (r : Represents g (framed atom_word) first s)
         (begin : IfPushed start before began rest (CameTo g atom_word first (Ok calls.Went))) where

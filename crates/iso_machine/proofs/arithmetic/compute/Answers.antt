@@ -1,5 +1,6 @@
-use Rattle.std.proofs.Common.{◌-◌, arith}
+use Rattle.std.proofs.Common.{◌-◌, ap, arith}
 use Rattle.std.proofs.lemmas.Result.{IfOk-weaker}
+use Rattle.iso_machine.specs.declared.framed.Framed.{Framed}
 use Rattle.iso_machine.specs.Arithmetic.{HasComputed}
 use Rattle.iso_machine.specs.Engines.{Engine}
 use Rattle.iso_machine.specs.Unpushed.{Choices, with_choices}
@@ -51,3 +52,9 @@ pub returns-clause-steps : goal.returns-clause-steps
 returns-clause-steps g c =
     let more = c.requires.more in
     IfOk-weaker c.go_on_from.result _ _ (λ done same. omega (arith, more, same)) c.go_on_from.ensures.steps
+
+pub returns-clause-arguments : goal.returns-clause-arguments
+returns-clause-arguments g c = ap (λ (h : Framed _ _ _). h.arguments) c.go_on_from.ensures.lists
+
+pub returns-clause-words : goal.returns-clause-words
+returns-clause-words g c = ap (λ (h : Framed _ _ _). h.words) c.go_on_from.ensures.lists

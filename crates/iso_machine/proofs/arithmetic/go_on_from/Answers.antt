@@ -4,7 +4,7 @@ use Rattle.iso_machine.specs.Came.{CameTo}
 use Rattle.iso_machine.specs.Engines.{Engine}
 use Rattle.iso_machine.specs.Unpushed.{with_choices}
 use Rattle.iso_lib_core.specs.declared.outcomes.Reply.TheVariants as outcome
-use Rattle.iso_machine.proofs.Moves.Arithmetic.{ball_fits, chain, done_list, done_moved, fail_moved, fault_came, fault_choices, fault_steps, goes_below, has_answered, raised_ahead, some_above, thrown_came}
+use Rattle.iso_machine.proofs.Moves.Arithmetic.{ball_fits, chain, done_list, done_moved, fail_moved, fault_came, fault_choices, fault_lists, fault_steps, goes_below, has_answered, raised_ahead, some_above, thrown_came}
 use Rattle.iso_machine.proofs.Moves.Thrown.{throws_over}
 use Rattle.iso_machine.proofs.Moves.Unpushed.{stays_over}
 use Rattle.iso_machine.proofs.Moves.Went.{came_moved, went_not}
@@ -131,4 +131,18 @@ returns-in_err-behind_fault-in-Err-clause-same g c =
 pub returns-in_ok-behind_fault-in-Err-clause-same : goal.returns-in_ok-behind_fault-in-Err-clause-same
 returns-in_ok-behind_fault-in-Err-clause-same g c =
     fault_choices g.S.Store g.S.Cells.atom_word _ c.behind_fault.new.self c.in-Err.fault _ _
+    c.in_ok-behind_fault-in-Err.ensures.throws
+
+pub returns-in-Ok-Done-clause-lists : goal.returns-in-Ok-Done-clause-lists
+returns-in-Ok-Done-clause-lists g c =
+    ap (λ (x : Engine g.row.S.Denot g.row.S-Word.Denot g.row.S-Mark.Denot). x.lists) c.go_behind.ensures.same
+
+pub returns-in_err-behind_fault-in-Err-clause-lists : goal.returns-in_err-behind_fault-in-Err-clause-lists
+returns-in_err-behind_fault-in-Err-clause-lists g c =
+    fault_lists g.S.Store g.S.Cells.atom_word _ c.behind_fault.new.self c.in-Err.fault _ _
+    c.in_err-behind_fault-in-Err.ensures.throws
+
+pub returns-in_ok-behind_fault-in-Err-clause-lists : goal.returns-in_ok-behind_fault-in-Err-clause-lists
+returns-in_ok-behind_fault-in-Err-clause-lists g c =
+    fault_lists g.S.Store g.S.Cells.atom_word _ c.behind_fault.new.self c.in-Err.fault _ _
     c.in_ok-behind_fault-in-Err.ensures.throws

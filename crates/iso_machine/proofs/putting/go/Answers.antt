@@ -60,7 +60,7 @@ call_with_later-requires-clause-room g c =
     let e = c.make_ready.new.search in
     let t = go_calls g.S.Store g.S.Cells.atom_word c.requires.3 ready.ahead c.requires.1 c.requires.2 ready.put
     ready.steps ready.names ready.clauses in
-    c.lacks_room.ensures.room c.args.clause _ _ _ _ _ c.args.put.now.name t c.if-lacks_room.false
+    c.lacks_room.ensures.room c.args.clause.now _ _ _ _ _ c.args.put.now.name t c.if-lacks_room.false
     (left_some g.S.Store g.S.Cells.atom_word e t c.has_left.result c.has_left.ensures c.if-has_left.true)
 
 pub call_with_later-requires-clause-few : goal.call_with_later-requires-clause-few
@@ -69,7 +69,7 @@ call_with_later-requires-clause-few g c =
     let e = c.make_ready.new.search in
     let t = go_calls g.S.Store g.S.Cells.atom_word c.requires.3 ready.ahead c.requires.1 c.requires.2 ready.put
     ready.steps ready.names ready.clauses in
-    c.lacks_room.ensures.few c.args.clause _ _ _ _ _ c.args.put.now.name t c.if-lacks_room.false
+    c.lacks_room.ensures.few c.args.clause.now _ _ _ _ _ c.args.put.now.name t c.if-lacks_room.false
     (left_some g.S.Store g.S.Cells.atom_word e t c.has_left.result c.has_left.ensures c.if-has_left.true)
 
 pub call_with_later-requires-clause-goes : goal.call_with_later-requires-clause-goes
@@ -82,19 +82,19 @@ call_with_later-requires-clause-goes g c =
           ready.names ready.clauses ready.costs ready.behind ready.stays,
     )
 
-pub returns-in_err-call_with_later-clause-came : goal.returns-in_err-call_with_later-clause-came
-returns-in_err-call_with_later-clause-came g c = λ old h.
+pub returns-in_err-gone-clause-came : goal.returns-in_err-gone-clause-came
+returns-in_err-gone-clause-came g c = λ old h.
     let ready = c.make_ready.ensures in
     last_error g.S.Store g.S.Cells.atom_word _ _ c.from_residual.result _ c.from_residual.ensures.0
     c.from_residual.ensures.1
-    (c.in_err-call_with_later.ensures.came old
+    (c.in_err-gone.ensures.came old
     (go_for g.S.Store g.S.Cells.atom_word h c.make_ready.new.search ready.ahead ready.put ready.steps ready.names
     ready.clauses ready.costs ready.behind ready.stays))
 
 pub returns-then-has_left-clause-came : goal.returns-then-has_left-clause-came
 returns-then-has_left-clause-came g c = λ old h.
     let ready = c.make_ready.ensures in
-    c.in_ok-call_with_later.ensures.came old
+    c.in_ok-gone.ensures.came old
     (go_for g.S.Store g.S.Cells.atom_word h c.make_ready.new.search ready.ahead ready.put ready.steps ready.names
     ready.clauses ready.costs ready.behind ready.stays)
 

@@ -74,24 +74,24 @@ module _ (g : Over) (c : After-leave_choice-below g) where
         stays = stays_on g.S.Store went.ensures.stays leave.ensures.stays;
       }
 
-pub retry-requires : goal.retry-requires
-retry-requires g c = (
+pub retry_above-requires : goal.retry_above-requires
+retry_above-requires g c = (
   c.leave_choice-below.new.self.choices,
   c.requires.tries.later,
   c.args.search.now,
   c.requires.stands.0,
   c.requires.stands.1,
-  is_back g (goal.at.retry-requires g c).After-leave_choice-below,
+  is_back g (goal.at.retry_above-requires g c).After-leave_choice-below,
 )
 
 pub returns-clause-came : goal.returns-clause-came
 returns-clause-came g c =
-    let came = c.retry.ensures.came c.leave_choice-below.new.self.choices c.requires.tries.later c.args.search.now
+    let came = c.retry_above.ensures.came c.leave_choice-below.new.self.choices c.requires.tries.later c.args.search.now
     c.requires.stands.0 c.requires.stands.1 (is_back g (goal.at.returns-clause-came g c).After-leave_choice-below) in
-    chosen g.S.Store g.S.Cells.atom_word c.retry.ensures.same came
+    chosen g.S.Store g.S.Cells.atom_word c.retry_above.ensures.same came
 
 pub returns-clause-steps : goal.returns-clause-steps
 returns-clause-steps g c =
     let back = is_back g (goal.at.returns-clause-steps g c).After-leave_choice-below in
     let steps = back.steps in
-    IfOk-weaker c.retry.result _ _ (λ done same. same ∙ steps) c.retry.ensures.steps
+    IfOk-weaker c.retry_above.result _ _ (λ done same. same ∙ steps) c.retry_above.ensures.steps

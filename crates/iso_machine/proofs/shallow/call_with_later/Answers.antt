@@ -18,8 +18,9 @@ use Rattle.iso_machine.specs.Engines.{Engine, framed}
 use Rattle.iso_machine.specs.Came.{CameTo}
 use Rattle.iso_machine.specs.GoalCalls.{CallsPut}
 use Rattle.iso_machine.specs.Unpushed.{CallsFor, Choices, HasPushed, IfPushed, choice_of, with_choices}
+use Rattle.iso_machine.proofs.Moves.Held.{held_on}
 use Rattle.iso_machine.proofs.Moves.Shallow.{choices_items, choices_with, has_tried, reserved_calls, reserved_for, was_stopped}
-use Rattle.iso_machine.proofs.Moves.Went.{went_not}
+use Rattle.iso_machine.proofs.CameLemmas.{last_error}
 use Rattle.iso_machine.specs.declared.calling.Gone.TheVariants as gone
 use Rattle.iso_machine.specs.declared.shallow.Unpushed.{Unpushed}
 use Rattle.iso_machine.proofs.shallow.call_with_later.Given.{Over}
@@ -33,7 +34,7 @@ returns-in_err-reserve-clause-came g c = λ first goes.
     let l = framed {S = g.row.S.Denot} {M = g.row.S-Mark.Denot} g.S.Cells.atom_word in
     let e = c.args.search.now in
     let items = c.reserve.ensures.items in
-    went_not g.S.Store g.S.Cells.atom_word c.from_residual.result fault.NoMemory c.from_residual.ensures.0
+    last_error g.S.Store g.S.Cells.atom_word _ _ c.from_residual.result fault.NoMemory c.from_residual.ensures.0
     c.from_residual.ensures.1
     (goes.stopped (record e { choices = c.reserve.new.self }) fault.NoMemory
     (record {
@@ -53,27 +54,27 @@ returns-in_err-reserve-clause-came g c = λ first goes.
 pub keep_later-requires : goal.keep_later-requires
 keep_later-requires g c =
     let r = c.requires.calls in (
-      c.args.clause,
+      c.args.clause.now,
       r.0,
       r.1,
       r.2,
       r.3,
       r.4,
       reserved_calls g.S.Store g.S.Cells.atom_word c.args.search.now c.reserve.new.self c.reserve.ensures.items
-          c.args.clause c.args.later.now c.args.put.now.name c.args.put.now.behind r.0 r.1 r.2 r.3 r.4 r.5,
+          c.args.clause.now c.args.later.now c.args.put.now.name c.args.put.now.behind r.0 r.1 r.2 r.3 r.4 r.5,
       r.6,
     )
 
 pub returns-in_err-kept-clause-came : goal.returns-in_err-kept-clause-came
 returns-in_err-kept-clause-came g c = λ first goes.
     let e = c.args.search.now in
-    let on = reserved_for g.S.Store g.S.Cells.atom_word e c.reserve.new.self c.reserve.ensures.items first c.args.clause
+    let on = reserved_for g.S.Store g.S.Cells.atom_word e c.reserve.new.self c.reserve.ensures.items first c.args.clause.now
     c.args.later.now c.args.put.now.name c.args.put.now.behind goes in
-    went_not g.S.Store g.S.Cells.atom_word c.from_residual-in_err-kept.result fault.NoMemory
+    last_error g.S.Store g.S.Cells.atom_word _ _ c.from_residual-in_err-kept.result fault.NoMemory
     c.from_residual-in_err-kept.ensures.0 c.from_residual-in_err-kept.ensures.1
     (on.stopped c.keep_later.new.search fault.NoMemory
     (record {
-      kept = λ s t k ks gs calls. inl (c.in_err-kept.ensures.refused c.args.clause s t k ks gs calls);
+      kept = λ s t k ks gs calls. inl (c.in_err-kept.ensures.refused c.args.clause.now s t k ks gs calls);
       heap = λ is. absurd (cc is);
       stays = c.in_err-kept.ensures.stays;
     }))
@@ -104,19 +105,19 @@ module _ (g : Over) (c : After-len-below g) where
   last : choices.items ≡ old.choices.items ++ choice ∷ []
   last = choices_items old.choices choice few
 
-  calls_old : CallsPut g.S.Store a old c.args.clause c.args.later.now c.args.put.now.name c.args.put.now.behind
+  calls_old : CallsPut g.S.Store a old c.args.clause.now c.args.later.now c.args.put.now.name c.args.put.now.behind
       c.requires.calls.0 c.requires.calls.1 c.requires.calls.2 c.requires.calls.3 c.requires.calls.4
   calls_old =
       let r = c.requires.calls in
-      reserved_calls g.S.Store a c.args.search.now c.reserve.new.self c.reserve.ensures.items c.args.clause
+      reserved_calls g.S.Store a c.args.search.now c.reserve.new.self c.reserve.ensures.items c.args.clause.now
       c.args.later.now c.args.put.now.name c.args.put.now.behind r.0 r.1 r.2 r.3 r.4 r.5
 
   for_old : (first : Engine g.row.S.Denot g.row.S-Word.Denot g.row.S-Mark.Denot)
-      → CallsFor g.S.Store a first c.args.search.now c.args.clause c.args.later.now c.args.put.now.name
+      → CallsFor g.S.Store a first c.args.search.now c.args.clause.now c.args.later.now c.args.put.now.name
       c.args.put.now.behind
-      → CallsFor g.S.Store a first old c.args.clause c.args.later.now c.args.put.now.name c.args.put.now.behind
+      → CallsFor g.S.Store a first old c.args.clause.now c.args.later.now c.args.put.now.name c.args.put.now.behind
   for_old first goes =
-      reserved_for g.S.Store a c.args.search.now c.reserve.new.self c.reserve.ensures.items first c.args.clause
+      reserved_for g.S.Store a c.args.search.now c.reserve.new.self c.reserve.ensures.items first c.args.clause.now
       c.args.later.now c.args.put.now.name c.args.put.now.behind goes
 
 pub enter_clause-requires : goal.enter_clause-requires
@@ -131,13 +132,13 @@ enter_clause-requires g c =
         r.3,
         r.4,
         c.args.later.now,
-        c.in_ok-kept.ensures.keeps.calls (choices g h) (last g h) c.args.clause r.0 r.1 r.2 r.3 r.4 (calls_old g h),
+        c.in_ok-kept.ensures.keeps.calls (choices g h) (last g h) c.args.clause.now r.0 r.1 r.2 r.3 r.4 (calls_old g h),
       ),
     )
 
 module _ (g : Over) (c : After-enter_clause g) where
   abbrev front : After-len-below g
-  front = c.before.before
+  front = c.before.before.before
 
   abbrev new : Engine g.row.S.Denot g.row.S-Word.Denot g.row.S-Mark.Denot
   new = c.enter_clause.new.search
@@ -178,14 +179,14 @@ module _ (g : Over) (c : After-enter_clause g) where
   -- it was entered, or its head missed
   came_first : c.enter_clause.result ≡ Ok gone.Went
       → (first : Engine g.row.S.Denot g.row.S-Word.Denot g.row.S-Mark.Denot)
-      → CallsFor g.S.Store (a g front) first c.args.search.now c.args.clause c.args.later.now c.args.put.now.name
+      → CallsFor g.S.Store (a g front) first c.args.search.now c.args.clause.now c.args.later.now c.args.put.now.name
       c.args.put.now.behind
       → IfPushed new (u g front) c.keep_later.new.later c.args.put.now.behind
       (CameTo g.S.Store (a g front) first (Ok calls.Went))
   came_first went first goes v pushed =
       let r = c.requires.calls in
       (for_old g front first goes).went (with_choices new v)
-      (has_tried g.S.Store (a g front) (old g front) c.keep_later.new.search new c.args.clause c.args.later.now
+      (has_tried g.S.Store (a g front) (old g front) c.keep_later.new.search new c.args.clause.now c.args.later.now
       c.keep_later.new.later c.args.put.now.name c.args.put.now.behind (u g front) c.in_ok-kept.ensures.keeps
       c.len-below.result many c.enter_clause.result c.enter_clause.ensures.over stays room
       c.in_ok-kept.ensures.behind (c.enter_clause.ensures.awake went) steps_same went r.0 r.1 r.2 r.3 r.4
@@ -194,13 +195,13 @@ module _ (g : Over) (c : After-enter_clause g) where
   -- it was refused
   stopped_first : (reason : StoreFault) → c.enter_clause.result ≡ Err reason
       → (first : Engine g.row.S.Denot g.row.S-Word.Denot g.row.S-Mark.Denot)
-      → CallsFor g.S.Store (a g front) first c.args.search.now c.args.clause c.args.later.now c.args.put.now.name
+      → CallsFor g.S.Store (a g front) first c.args.search.now c.args.clause.now c.args.later.now c.args.put.now.name
       c.args.put.now.behind
       → IfPushed new (u g front) c.keep_later.new.later c.args.put.now.behind
       (CameTo g.S.Store (a g front) first (Err reason))
   stopped_first reason is first goes v pushed =
       (for_old g front first goes).stopped (with_choices new v) reason
-      (was_stopped g.S.Store (a g front) (old g front) c.keep_later.new.search new c.args.clause c.args.later.now
+      (was_stopped g.S.Store (a g front) (old g front) c.keep_later.new.search new c.args.clause.now c.args.later.now
       c.keep_later.new.later c.args.put.now.name c.args.put.now.behind (u g front) c.in_ok-kept.ensures.keeps
       c.len-below.result many c.enter_clause.result c.enter_clause.ensures.over stays room reason is
       (λ full. c.enter_clause.ensures.heap (is ∙ ap Err full)) v (pushed_old v pushed))
@@ -264,3 +265,8 @@ pub unreachable-requires-in-Ok-Last : goal.unreachable-requires-in-Ok-Last
 unreachable-requires-in-Ok-Last g c =
     let last : c.enter_clause.result ≡ Ok gone.Last = search rules in
     absurd (false≢true (c.enter_clause.ensures.alone last))
+
+pub settle-requires-clause-holds : goal.settle-requires-clause-holds
+settle-requires-clause-holds g c =
+    held_on c.keep_later.new.search.lists c.enter_clause.new.search.lists c.in_ok-kept.kept
+    c.enter_clause.ensures.arguments c.in_ok-kept.ensures.holds c.enter_clause.ensures.words

@@ -1,4 +1,4 @@
-use Rattle.std.proofs.Common.{◌≡◌, ℕ, Option, [], length, arith, ap, subst, refl}
+use Rattle.std.proofs.Common.{sym, ◌≡◌, ◌∙◌, ℕ, Option, [], length, arith, ap, subst, refl}
 use Rattle.iso_program.specs.Leaving.{AreLeft, NextLeft}
 use Rattle.iso_program.proofs.LeavingLemmas.{left_behind}
 use Rattle.iso_program.proofs.ResultLemmas.{behind_error}
@@ -6,6 +6,7 @@ use Rattle.iso_search_core.specs.Own.{own_of}
 use Rattle.iso_search.proofs.AheadLemmas.{remains_ahead}
 use Rattle.iso_search.proofs.WorldLemmas.{same_texts}
 use Rattle.iso_machine.specs.Engines.{framed}
+use Rattle.iso_machine.specs.declared.framed.Extent.{Extent}
 use Rattle.iso_machine.specs.declared.framed.Framed.{Framed}
 use Rattle.iso_machine.specs.declared.shallow.Unpushed.{Unpushed}
 use Rattle.iso_machine.proofs.Moves.Kept.{kept_ahead, kept_behind, kept_stays}
@@ -107,4 +108,15 @@ returns-clause-keeps g c =
           later_costs g.S.Store g.S.Cells.atom_word e held nodes frames arguments on.words c.mark-mark.new.self
           marked.present marked.marks (same_texts marked.names) u c.next_left.new.later c.args.put.now.behind
           c.kept-kept.ensures marked.stands marked.older choices pushed (omega (arith, few, less)));
+    }
+
+pub returns-clause-holds : goal.returns-clause-holds
+returns-clause-holds g c =
+    let on = c.in_ok-call.ensures in
+    let place = on.place in
+    let kept = ap (λ (x : Extent). x.words) c.kept-kept.ensures in
+    record {
+      within = omega (arith, place, kept);
+      stood = omega (arith, kept);
+      are = on.arguments ∙ sym (ap (λ (h : Framed _ _ _). h.arguments.items) c.keep_arguments.ensures.same);
     }

@@ -26,3 +26,9 @@ returns-in-Refused-clause-came g c = λ first begun.
 pub returns-in-Last-clause-came : goal.returns-in-Last-clause-came
 returns-in-Last-clause-came g c = λ first begun.
     c.try_others.ensures.last first c.in-Last.done begun c.in-Last.is
+
+pub returns-in-Last-clause-alone : goal.returns-in-Last-clause-alone
+returns-in-Last-clause-alone g c = λ done. c.try_others.ensures.alone c.in-Last.done c.in-Last.is done
+
+pub try_others-requires-clause-holds : goal.try_others-requires-clause-holds
+try_others-requires-clause-holds g c = c.requires.holds
